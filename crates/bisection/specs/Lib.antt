@@ -1,0 +1,13 @@
+-- Document 01 as definitions, to be read from the top; a reader must believe these.
+-- The cube and the bisection: points, cells, children, the cell of a root and a path.
+pub mod Cells
+-- The roots, and all of them in dictionary order.
+pub mod Roots
+-- The code: signed entries, orthants, the step rule, the code of a root and a path, its bytes.
+pub mod Codes
+-- The refusal numbers, and the order of refusals for a code.
+pub mod Refusals
+-- Facets, faces of the cube, and cells that have all of a facet's vertices.
+pub mod Facets
+-- What is proved of the definitions, each statement with its proof's place.
+pub mod Theorems

@@ -1,0 +1,20 @@
+-- `Dim::greatest_depth` meets its contract: the product is small, and it is the definition.
+use native.Mathlib.Omega.{arith}
+use Rattle.dimension.specs.Sizes.{greatestDepth, halvings}
+use Rattle.dimension.specs.Laws.{axes-range}
+use borrow.Author.Needs.{needs}
+use Rattle.dimension.proofs.Dim.greatest_depth.Statement.{statement}
+use Rattle.dimension.proofs.Dim.greatest_depth.Tie as tie
+
+axes-requires : tie.Need-axes-requires
+axes-requires c κs = search needs
+
+mul-result : tie.Need-mul-result
+mul-result c = omega (arith, axes-range (c .before .args .self) .few)
+
+returns : tie.Need-returns
+unfolding greatestDepth halvings
+returns c = simp (c .axes .ensures)
+
+pub greatest-depth-spec : {M : Type 1} → statement M
+greatest-depth-spec = tie.close (tie.spec axes-requires mul-result returns)

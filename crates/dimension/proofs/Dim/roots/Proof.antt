@@ -1,0 +1,26 @@
+-- `Dim::roots` meets its contract: each count is the factorial.
+use Rattle.dimension.specs.Laws.{root-count}
+use borrow.Author.Needs.{needs}
+use Rattle.dimension.proofs.Dim.roots.Statement.{statement}
+use Rattle.dimension.proofs.Dim.roots.Tie as tie
+
+enum-told : tie.Need-enum-told
+enum-told c = search needs
+
+enum-told-2 : tie.Need-enum-told-2
+enum-told-2 c = search needs
+
+enum-told-3 : tie.Need-enum-told-3
+enum-told-3 c = search needs
+
+returns : tie.Need-returns
+returns c = root-count (c .before .before .args .self) _ (search needs)
+
+returns-2 : tie.Need-returns-2
+returns-2 c = root-count (c .before .before .args .self) _ (search needs)
+
+returns-3 : tie.Need-returns-3
+returns-3 c = root-count (c .before .before .args .self) _ (search needs)
+
+pub roots-spec : {M : Type 1} → statement M
+roots-spec = tie.close (tie.spec enum-told enum-told-2 enum-told-3 returns returns-2 returns-3)

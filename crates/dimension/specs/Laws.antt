@@ -1,0 +1,192 @@
+-- The laws of the sizes.
+use mathlib.Core.Path.{_≡_, refl, sym, ap, _∙_, subst}
+use mathlib.Core.Bool.{Bool, true, false, _||_}
+use mathlib.Core.Logic.{_⊎_, inl, inr}
+use Prim.Native.Nat.{ℕ, zero, suc, _+_, _*_, _/_, _%_, _-_, _^_, _≤_, _<_}
+use native.Mathlib.Omega.{arith}
+use native.Mathlib.Nat.{div-add-mod', mod-lt, div-div-eq-div-mul, div-lt-iff-lt-mul, mul-div-right, zero-div, zero-mod, eq-of-mul-eq-mul-left, mul-lt-mul-of-pos-right, mul-le-mul-left, le-div-iff-mul-le, div-mul-le-self, mul-assoc, lt-of-mul-lt-mul-right}
+use native.Mathlib.Decide.{decLt, ℕ-discrete}
+use lib.Arith.{digits-div, digits-mod}
+use lib.Pow.{pow-add, pow-pos, pow-lt}
+use lib.Dec.{T, eqb, eqb·suc-zero, lit<, lit≤}
+use borrow.Author.Tests.{ne-eqb}
+use Rattle.dimension.specs.declared.Dim.{Dim}
+use Rattle.dimension.specs.declared.Dim.the-variants.{Two, Three, Four}
+use Rattle.dimension.specs.Sizes.{isDimension, axesOf, halvings, cubeSide, greatestDepth, boxDepth, level, splitPlace, sideAfter, boxSide, codeLength, longestCode, rootCount}
+
+-- the three dimensions: at least two axes, and few enough that an axis and its sign fit a byte
+pub record Dimension (d : ℕ) : Type 0 where
+  pub two : 2 ≤ d
+  pub few : d ≤ 4
+
+pub dimension : (d : ℕ) → isDimension d ≡ true → Dimension d
+unfolding isDimension
+dimension d e = go (ℕ-discrete d 2) (ℕ-discrete d 3) (ℕ-discrete d 4)
+  where
+    go : Dec (d ≡ 2) → Dec (d ≡ 3) → Dec (d ≡ 4) → Dimension d
+    go (yes a) b c = record { two = omega arith; few = omega arith }
+    go (no a) (yes b) c = record { two = omega arith; few = omega arith }
+    go (no a) (no b) (yes c) = record { two = omega arith; few = omega arith }
+    go (no a) (no b) (no c) = absurd (subst T (sym (simp (ne-eqb d 2 a, ne-eqb d 3 b, ne-eqb d 4 c) at e)) tt)
+
+pub axes-dimension : (d : Dim) → isDimension (axesOf d) ≡ true
+unfolding isDimension
+axes-dimension Two = refl
+axes-dimension Three = refl
+axes-dimension Four = refl
+
+pub axes-range : (d : Dim) → Dimension (axesOf d)
+axes-range d = dimension (axesOf d) (axes-dimension d)
+
+pub no-dimension : (d : ℕ) → (d ≡ 2 → ⊥) → (d ≡ 3 → ⊥) → (d ≡ 4 → ⊥) → isDimension d ≡ false
+unfolding isDimension
+no-dimension d a b c = simp (ne-eqb d 2 a, ne-eqb d 3 b, ne-eqb d 4 c)
+
+-- sides: 2^L of them make the cube's
+pub side-whole : (L : ℕ) → L ≤ halvings → 2 ^ L * sideAfter L ≡ cubeSide
+unfolding sideAfter cubeSide
+side-whole L h = rw (← parts, pow-add 2 L (halvings - L), mul-div-right (2 ^ (halvings - L)) (pow-pos L)) refl
+  where
+    parts : L + (halvings - L) ≡ halvings
+    parts = omega arith
+
+pub side-first : sideAfter 0 ≡ cubeSide
+unfolding sideAfter cubeSide halvings
+side-first = refl
+
+pub side-pos : (L : ℕ) → L ≤ halvings → 0 < sideAfter L
+unfolding cubeSide
+side-pos L h = go (sideAfter L) (side-whole L h)
+  where
+    go : (s : ℕ) → 2 ^ L * s ≡ cubeSide → 0 < s
+    go zero e = absurd (omega (arith, pow-pos halvings))
+    go (suc s) e = omega arith
+
+pub side-twice : (L : ℕ) → L < halvings → sideAfter L ≡ 2 * sideAfter (suc L)
+side-twice L h = eq-of-mul-eq-mul-left (2 ^ L) (pow-pos L) (sideAfter L) (2 * sideAfter (suc L))
+    (side-whole L (omega arith) ∙ sym (side-whole (suc L) h) ∙ ap (λ (u : ℕ). u * sideAfter (suc L)) two ∙ mul-assoc (2 ^ L) 2 (sideAfter (suc L)))
+  where
+    two : 2 ^ suc L ≡ 2 ^ L * 2
+    two = omega arith
+
+pub side-half : (L : ℕ) → sideAfter (suc L) ≡ sideAfter L / 2
+unfolding sideAfter
+side-half L = ap (λ (u : ℕ). cubeSide / u) two ∙ sym (div-div-eq-div-mul cubeSide (2 ^ L) 2)
+  where
+    two : 2 ^ suc L ≡ 2 ^ L * 2
+    two = omega arith
+
+pub side-even : (L : ℕ) → L < halvings → sideAfter L % 2 ≡ 0
+side-even L h = omega (arith, side-twice L h)
+
+pub side-same : (L M : ℕ) → L ≤ halvings → M ≤ halvings → sideAfter L ≡ sideAfter M → L ≡ M
+side-same L M h l e = go (decLt L M) (decLt M L)
+  where
+    less : (L M : ℕ) → L < M → L ≤ halvings → M ≤ halvings → sideAfter L ≡ sideAfter M → ⊥
+    less L M q h l e = omega (arith, mul-lt-mul-of-pos-right {m = 2 ^ L} {n = 2 ^ M} {k = sideAfter M} (pow-lt {i = L} {j = M} q) (side-pos M l), side-whole M l, rw e at (side-whole L h))
+    go : Dec (L < M) → Dec (M < L) → L ≡ M
+    go (yes q) r = absurd (less L M q h l e)
+    go (no q) (yes r) = absurd (less M L r l h (sym e))
+    go (no q) (no r) = omega arith
+
+-- coordinates fit two bytes, a depth fits one
+pub cube-two-bytes : cubeSide < 2 ^ 16
+unfolding cubeSide halvings
+cube-two-bytes = lit< tt
+
+pub halvings-few : halvings ≤ 15
+unfolding halvings
+halvings-few = lit≤ tt
+
+-- depth D by its box depth and its level
+module _ (d D : ℕ) (d0 : 0 < d) where
+  pub split-range : (1 ≤ splitPlace d D) × (splitPlace d D ≤ d)
+  unfolding splitPlace level
+  split-range = omega (arith, mod-lt D d0)
+
+  pub depth-parts : boxDepth d D * d + (d - splitPlace d D) ≡ D
+  unfolding splitPlace level boxDepth
+  depth-parts = omega (arith, div-add-mod' D d, mod-lt D d0)
+
+  pub box-in : D ≤ greatestDepth d → boxDepth d D ≤ halvings
+  unfolding boxDepth greatestDepth
+  box-in h = omega (arith, div-lt-iff-lt-mul {k = d} {x = D} {y = suc halvings} d0 .1 (omega arith))
+
+  pub box-under : D < greatestDepth d → boxDepth d D < halvings
+  unfolding boxDepth greatestDepth
+  box-under h = div-lt-iff-lt-mul d0 .1 h
+
+pub depth-same : (d D E : ℕ) → 0 < d → boxDepth d D ≡ boxDepth d E → splitPlace d D ≡ splitPlace d E → D ≡ E
+depth-same d D E d0 e f = sym (depth-parts d D d0) ∙ rw (e, f) (depth-parts d E d0)
+
+-- a box side is positive, and even where its cells are still split
+pub record Side (d k s : ℕ) : Type 0 where
+  pub some : 0 < s
+  pub even : k < d → s % 2 ≡ 0
+
+box-short : (d D : ℕ) → 0 < d → D ≤ greatestDepth d → splitPlace d D < d → boxDepth d D < halvings
+unfolding greatestDepth
+box-short d D d0 h l = lt-of-mul-lt-mul-right d (omega (arith, depth-parts d D d0))
+
+pub side-of : (d D : ℕ) → 0 < d → D ≤ greatestDepth d → Side d (splitPlace d D) (boxSide d D)
+unfolding boxSide
+side-of d D d0 h = record
+  { some = side-pos (boxDepth d D) (box-in d D d0 h)
+  ; even = λ l. side-even (boxDepth d D) (box-short d D d0 h l) }
+
+pub at-root : (d : ℕ) → 0 < d → (boxDepth d 0 ≡ 0) × (splitPlace d 0 ≡ d)
+unfolding boxDepth splitPlace level
+at-root d d0 = (zero-div d, rw (zero-mod d) (omega arith))
+
+-- one step deeper: within the box, or into a new one
+pub record Within (d D : ℕ) : Type 0 where
+  pub room : 1 < splitPlace d D
+  pub split : suc (splitPlace d (suc D)) ≡ splitPlace d D
+  pub level : eqb (level d (suc D)) 0 ≡ false
+  pub box : boxDepth d (suc D) ≡ boxDepth d D
+
+pub record Turned (d D : ℕ) : Type 0 where
+  pub last : splitPlace d D ≡ 1
+  pub split : splitPlace d (suc D) ≡ d
+  pub level : eqb (level d (suc D)) 0 ≡ true
+  pub box : boxDepth d (suc D) ≡ suc (boxDepth d D)
+
+pub deeper : (d D : ℕ) → 0 < d → Within d D ⊎ Turned d D
+unfolding splitPlace level boxDepth
+deeper d D d0 = go (decLt (suc (D % d)) d)
+  where
+    sum : D / d * d + D % d ≡ D
+    sum = div-add-mod' D d
+    more : D / d * d + suc (D % d) ≡ suc D
+    more = omega (arith, sum)
+    go : Dec (suc (D % d) < d) → Within d D ⊎ Turned d D
+    go (yes h) = inl (record { room = omega (arith, mod-lt D d0); split = rw l (omega arith); level = rw l (eqb·suc-zero (D % d)); box = rw (← more) (digits-div (D / d) h) })
+      where
+        l : suc D % d ≡ suc (D % d)
+        l = rw (← more) (digits-mod (D / d) h)
+    go (no h) = inr (record { last = omega (arith, mod-lt D d0); split = rw l (omega arith); level = rw l; box = rw (← up) (digits-div (suc (D / d)) d0) })
+      where
+        up : suc (D / d) * d + 0 ≡ suc D
+        up = omega (arith, more, mod-lt D d0)
+        l : suc D % d ≡ 0
+        l = rw (← up) (digits-mod (suc (D / d)) d0)
+
+pub div-le : (n d : ℕ) → 2 ≤ d → n / d ≤ n / 2
+div-le n d h = le-div-iff-mul-le {k = 2} {x = n / d} {y = n} (omega arith) .1 (omega (arith, mul-le-mul-left (n / d) h, div-mul-le-self n d))
+
+-- the counts that the code has for d!
+abbrev pub rootsOf : Dim → ℕ
+rootsOf Two = 2
+rootsOf Three = 6
+rootsOf Four = 24
+
+-- what the code computes of the sizes: division by an axes count that is a variable
+pub boxes-few : (d D : ℕ) → Dimension d → D ≤ greatestDepth d → D / d ≤ 15
+unfolding boxDepth
+boxes-few d D n h = omega (arith, box-in d D (omega (arith, n .two)) h, halvings-few)
+
+pub root-count : (d : Dim) (n : ℕ) → n ≡ rootsOf d → n ≡ rootCount (axesOf d)
+unfolding rootCount
+root-count Two n e = e
+root-count Three n e = e
+root-count Four n e = e

@@ -1,0 +1,91 @@
+// The dimension type and every size that belongs to it. A size has one home: here for the code, and
+// specs/Sizes.antt for the contracts. To change the halvings, edit HALVINGS and CUBE_SIDE here and
+// `halvings` there; nothing else in code or definitions names a number of them.
+ghost use mathlib.Core.Path.{_≡_};
+ghost use Prim.Native.Nat.{_≤_};
+ghost use Rattle.dimension.specs.Sizes.{axesOf, greatestDepth, cubeSide, boxSide, codeLength, longestCode, rootCount};
+ghost use Rattle.dimension.specs.Known.{KnownIs};
+
+// A dimension that is built.
+pub enum Dim {
+    Two,
+    Three,
+    Four,
+}
+
+// What a dimension byte says.
+pub enum Known {
+    Dimension(Dim),
+    Nothing,
+}
+
+impl Dim {
+    // How often the cube is halved on each axis.
+    pub const HALVINGS: usize = 12;
+    // The cube is 0 to CUBE_SIDE on each axis: two to the power HALVINGS.
+    pub const CUBE_SIDE: u16 = 4096;
+
+    // The dimension that a byte names, if it is built.
+    pub fn of(byte: u8) -> Known
+        ensures { λ r. ⌜ KnownIs byte r ⌝ }
+    {
+        match byte {
+            2 => Known::Dimension(Dim::Two),
+            3 => Known::Dimension(Dim::Three),
+            4 => Known::Dimension(Dim::Four),
+            _ => Known::Nothing,
+        }
+    }
+
+    // How many axes there are.
+    pub fn axes(self) -> usize
+        ensures { λ r. ⌜ r ≡ axesOf self ⌝ }
+    {
+        match self {
+            Dim::Two => 2,
+            Dim::Three => 3,
+            Dim::Four => 4,
+        }
+    }
+
+    // The depth at which no cell has children any more.
+    pub fn greatest_depth(self) -> usize
+        ensures { λ r. ⌜ r ≡ greatestDepth (axesOf self) ⌝ }
+    {
+        Dim::HALVINGS * self.axes()
+    }
+
+    // How many roots there are: the permutations of the axes.
+    pub fn roots(self) -> usize
+        ensures { λ r. ⌜ r ≡ rootCount (axesOf self) ⌝ }
+    {
+        match self {
+            Dim::Two => 2,
+            Dim::Three => 6,
+            Dim::Four => 24,
+        }
+    }
+
+    // The length of a code at a depth.
+    pub fn code_length(self, depth: usize) -> usize
+        ensures { λ r. ⌜ r ≡ codeLength (axesOf self) depth ⌝ }
+    {
+        let axes = self.axes();
+        2 + axes + depth / axes
+    }
+
+    // The length of a code at the greatest depth.
+    pub fn longest_code(self) -> usize
+        ensures { λ r. ⌜ r ≡ longestCode (axesOf self) ⌝ }
+    {
+        self.code_length(self.greatest_depth())
+    }
+
+    // The side of the box of a cell at a depth.
+    pub fn box_side(self, depth: usize) -> u16
+        requires { ⌜ depth ≤ greatestDepth (axesOf self) ⌝ }
+        ensures { λ r. ⌜ r ≡ boxSide (axesOf self) depth ⌝ }
+    {
+        Dim::CUBE_SIDE >> (depth / self.axes())
+    }
+}
