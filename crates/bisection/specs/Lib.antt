@@ -9,5 +9,7 @@ pub mod Codes
 pub mod Refusals
 -- Facets, faces of the cube, and cells that have all of a facet's vertices.
 pub mod Facets
+-- The definitions computed on small cases: the document's quoted orthants, and how many codes pass.
+pub mod Computed
 -- What is proved of the definitions, each statement with its proof's place.
 pub mod Theorems

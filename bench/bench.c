@@ -1,0 +1,265 @@
+/*
+ * bench.c: time per call of each entry, ours beside plain C, as a table in markdown.
+ *
+ * Both run over the same random good inputs of every dimension and depth, in rounds that alternate, and
+ * the least time of each counts. Both are called through pointers from here and stand in files of their
+ * own, so that neither is inlined. Outputs are lent at their longest and not cleared between calls.
+ */
+#define _POSIX_C_SOURCE 199309L
+#include "plain.h"
+
+#include <stdio.h>
+#include <stdlib.h>
+#include <string.h>
+#include <time.h>
+
+#define CODES 8192
+#define ROUNDS 200
+#define SHEET_BYTES 400000
+
+/* One program's entries. */
+typedef struct {
+    uint8_t (*code_check)(const uint8_t *, size_t);
+    rmk_written (*path_to_code)(const uint8_t *, size_t, const uint8_t *, size_t, uint8_t *, size_t);
+    rmk_path_written (*code_to_path)(const uint8_t *, size_t, uint8_t *, size_t, uint8_t *, size_t);
+    rmk_written (*vertices)(const uint8_t *, size_t, uint8_t *, size_t);
+    rmk_written (*child)(const uint8_t *, size_t, uint8_t, uint8_t *, size_t);
+    rmk_written (*parent)(const uint8_t *, size_t, uint8_t *, size_t);
+    rmk_crossed (*cross)(const uint8_t *, size_t, uint8_t, uint8_t *, size_t);
+    rmk_sheet_answer (*sheet_check)(const uint8_t *, size_t);
+} entries;
+
+static const entries plain = {plain_code_check, plain_path_to_code, plain_code_to_path,
+                              plain_vertices,   plain_child,        plain_parent,
+                              plain_cross,      plain_sheet_check};
+
+/* bench/run names the entries that the library has not. */
+#ifdef NO_CROSS
+#define rmk_cross NULL
+#endif
+#ifdef NO_SHEETS
+#define rmk_sheet_check NULL
+#endif
+static const entries ours = {rmk_code_check, rmk_path_to_code, rmk_code_to_path, rmk_vertices,
+                             rmk_child,      rmk_parent,       rmk_cross,        rmk_sheet_check};
+
+/* A random cell. */
+typedef struct {
+    uint8_t d, depth, length, which, facet;
+    uint8_t code[RMK_LONGEST_CODE];
+} sample;
+
+static sample samples[CODES];
+static uint8_t sample_roots[CODES][RMK_LONGEST_ROOT], sample_paths[CODES][RMK_LONGEST_PATH];
+static uint8_t sheet[SHEET_BYTES];
+static size_t sheet_length, sheet_records;
+
+static uint64_t random_below(uint64_t n)
+{
+    static uint64_t state = 1;
+    state ^= state << 13;
+    state ^= state >> 7;
+    state ^= state << 17;
+    return (state >> 11) % n;
+}
+
+static void random_path(uint8_t *path, size_t depth)
+{
+    for (size_t t = 0; t < depth; t++)
+        path[t] = (uint8_t)random_below(2);
+}
+
+static void random_sample(size_t n)
+{
+    sample *s = &samples[n];
+    uint8_t *root = sample_roots[n];
+    s->d = (uint8_t)(2 + random_below(3));
+    s->depth = (uint8_t)random_below(RMK_HALVINGS * s->d + 1);
+    s->which = (uint8_t)random_below(2);
+    s->facet = (uint8_t)random_below(s->d + 1u);
+    for (size_t a = 0; a < s->d; a++) { /* each axis goes to a random place among those before */
+        size_t at = random_below(a + 1);
+        root[a] = root[at];
+        root[at] = (uint8_t)(a + 1);
+    }
+    random_path(sample_paths[n], s->depth);
+    rmk_written written = plain_path_to_code(root, s->d, sample_paths[n], s->depth, s->code, sizeof s->code);
+    s->length = (uint8_t)written.length;
+}
+
+/* One record, its samples zero. */
+static void add_leaf(const uint8_t *code, size_t length)
+{
+    size_t samples_length = 2 * (code[0] + 1u);
+    sheet[sheet_length] = 0x43;
+    sheet[sheet_length + 1] = 0x4C;
+    memcpy(sheet + sheet_length + 2, code, length);
+    memset(sheet + sheet_length + 2 + length, 0, samples_length);
+    sheet_length += 2 + length + samples_length;
+    sheet_records++;
+}
+
+/* The tree of a cell that is split toward some of its deepest cells and nowhere else. */
+static void add_tree(const uint8_t *code, size_t length, unsigned deepest)
+{
+    if (deepest == 0 || code[1] == RMK_HALVINGS * code[0]) {
+        add_leaf(code, length);
+        return;
+    }
+    uint8_t child[RMK_LONGEST_CODE];
+    unsigned share = (unsigned)random_below(deepest + 1);
+    for (uint8_t which = 0; which < 2; which++) {
+        rmk_written written = plain_child(code, length, which, child, sizeof child);
+        add_tree(child, written.length, which == 0 ? share : deepest - share);
+    }
+}
+
+/* All roots in dictionary order, their leaves of every depth. With so many deepest cells a root there are
+ * at most 13,000 records, of 30 bytes at most: SHEET_BYTES has room for them. */
+static void random_sheet(uint8_t d)
+{
+    static const unsigned deepest[] = {200, 60, 10};
+    sheet_length = sheet_records = 0;
+    for (unsigned digits = 0; digits < 1u << (2 * d); digits++) {
+        uint8_t root[RMK_LONGEST_CODE] = {d, 0};
+        for (unsigned a = 0; a < d; a++)
+            root[2 + a] = (uint8_t)(1 + (digits >> (2 * (d - 1 - a)) & 3));
+        if (plain_code_check(root, 2u + d) == RMK_DONE)
+            add_tree(root, 2u + d, deepest[d - 2]);
+    }
+}
+
+/* A round calls one entry on every sample and gives a sum of what it answered. */
+typedef uint64_t round_of(const entries *e);
+
+static uint64_t code_check_round(const entries *e)
+{
+    uint64_t sum = 0;
+    for (const sample *s = samples; s < samples + CODES; s++)
+        sum += 1u + e->code_check(s->code, s->length);
+    return sum;
+}
+
+static uint64_t path_to_code_round(const entries *e)
+{
+    uint8_t out[RMK_LONGEST_CODE] = {0};
+    uint64_t sum = 0;
+    for (size_t n = 0; n < CODES; n++) {
+        const sample *s = &samples[n];
+        sum += e->path_to_code(sample_roots[n], s->d, sample_paths[n], s->depth, out, sizeof out).length;
+        sum += out[2];
+    }
+    return sum;
+}
+
+static uint64_t code_to_path_round(const entries *e)
+{
+    uint8_t root[RMK_LONGEST_ROOT] = {0}, path[RMK_LONGEST_PATH] = {0};
+    uint64_t sum = 0;
+    for (const sample *s = samples; s < samples + CODES; s++) {
+        sum += e->code_to_path(s->code, s->length, root, sizeof root, path, sizeof path).depth;
+        sum += root[0] + path[0];
+    }
+    return sum;
+}
+
+static uint64_t vertices_round(const entries *e)
+{
+    uint8_t points[RMK_MOST_POINTS] = {0};
+    uint64_t sum = 0;
+    for (const sample *s = samples; s < samples + CODES; s++) {
+        sum += e->vertices(s->code, s->length, points, sizeof points).length;
+        sum += points[1] + points[5];
+    }
+    return sum;
+}
+
+static uint64_t child_round(const entries *e)
+{
+    uint8_t out[RMK_LONGEST_CODE] = {0};
+    uint64_t sum = 0;
+    for (const sample *s = samples; s < samples + CODES; s++) {
+        sum += e->child(s->code, s->length, s->which, out, sizeof out).length;
+        sum += out[2];
+    }
+    return sum;
+}
+
+static uint64_t parent_round(const entries *e)
+{
+    uint8_t out[RMK_LONGEST_CODE] = {0};
+    uint64_t sum = 0;
+    for (const sample *s = samples; s < samples + CODES; s++) {
+        sum += e->parent(s->code, s->length, out, sizeof out).length;
+        sum += out[2];
+    }
+    return sum;
+}
+
+static uint64_t cross_round(const entries *e)
+{
+    uint8_t out[RMK_LONGEST_CODE] = {0};
+    uint64_t sum = 0;
+    for (const sample *s = samples; s < samples + CODES; s++) {
+        sum += e->cross(s->code, s->length, s->facet, out, sizeof out).place;
+        sum += out[2];
+    }
+    return sum;
+}
+
+static uint64_t sheet_check_round(const entries *e)
+{
+    return e->sheet_check(sheet, sheet_length).records;
+}
+
+/* Nanoseconds that a round took; its sum must be the one expected. */
+static double time_of(round_of *round, const entries *e, uint64_t expected)
+{
+    struct timespec begin, end;
+    clock_gettime(CLOCK_MONOTONIC, &begin);
+    uint64_t sum = round(e);
+    clock_gettime(CLOCK_MONOTONIC, &end);
+    if (sum != expected) {
+        fprintf(stderr, "the library and plain C do not answer the same\n");
+        exit(1);
+    }
+    return (double)(end.tv_sec - begin.tv_sec) * 1e9 + (double)(end.tv_nsec - begin.tv_nsec);
+}
+
+static double least(double a, double b) { return a < b ? a : b; }
+
+/* One row of the table: the least round of each, for each of `calls` calls or records. */
+static void row(const char *name, round_of *round, size_t calls)
+{
+    double our_time = 1e18, plain_time = 1e18;
+    uint64_t sum = round(&plain);
+    for (int n = 0; n < ROUNDS; n++) {
+        our_time = least(our_time, time_of(round, &ours, sum));
+        plain_time = least(plain_time, time_of(round, &plain, sum));
+    }
+    printf("| %s | %.1f | %.1f | %.2f |\n", name, our_time / (double)calls,
+           plain_time / (double)calls, our_time / plain_time);
+}
+
+int main(void)
+{
+    static const char *const sheet_names[] = {"sheet_check, a record, dimension 2",
+                                              "sheet_check, a record, dimension 3",
+                                              "sheet_check, a record, dimension 4"};
+    for (size_t n = 0; n < CODES; n++)
+        random_sample(n);
+    printf("| entry | ours, ns | plain C, ns | ratio |\n|---|---|---|---|\n");
+    row("code_check", code_check_round, CODES);
+    row("path_to_code", path_to_code_round, CODES);
+    row("code_to_path", code_to_path_round, CODES);
+    row("vertices", vertices_round, CODES);
+    row("child", child_round, CODES);
+    row("parent", parent_round, CODES);
+    if (ours.cross)
+        row("cross", cross_round, CODES);
+    for (uint8_t d = 2; d <= 4 && ours.sheet_check; d++) {
+        random_sheet(d);
+        row(sheet_names[d - 2], sheet_check_round, sheet_records);
+    }
+    return 0;
+}

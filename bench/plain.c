@@ -1,0 +1,483 @@
+/*
+ * plain.c: the entries in plain C, each the rule that document 01 states or that follows from it.
+ * An entry of the signed permutation stays the byte it is: the axis in the low bits, 128 for minus.
+ */
+#include "plain.h"
+
+#include <string.h>
+
+#define MINUS 128u
+#define HEAD 2u /* bytes before the entries: dimension and depth */
+#define MOST_AXES 4u
+#define MARK 2u /* bytes before a record's code: 43 4C */
+
+/* What the first two bytes of a code say, and the code's refusal. */
+typedef struct {
+    unsigned d, depth, boxes, k;
+    uint8_t refusal;
+} header;
+
+static unsigned axis_of(uint8_t entry) { return entry & (MINUS - 1); }
+
+static unsigned is_minus(uint8_t entry) { return entry >> 7; }
+
+static unsigned is_high(unsigned orthant, unsigned axis) { return orthant >> (axis - 1) & 1; }
+
+/* The last orthant is the box's own sign, one bit for each axis; the cube's own sign is plus. */
+static unsigned own_sign(const uint8_t *orthants, unsigned boxes)
+{
+    return boxes == 0 ? 0 : orthants[boxes - 1];
+}
+
+static rmk_written written(uint8_t refusal, size_t length)
+{
+    rmk_written answer = {refusal, length};
+    return answer;
+}
+
+/* Are the entries, less what the mask takes off, the axes 1..d, each once? */
+static int is_permutation(const uint8_t *entries, unsigned d, unsigned mask)
+{
+    unsigned seen = 0;
+    for (unsigned i = 0; i < d; i++) {
+        unsigned axis = entries[i] & mask;
+        if (axis < 1 || axis > d || (seen >> axis & 1))
+            return 0;
+        seen |= 1u << axis;
+    }
+    return 1;
+}
+
+/* Refusals 1 and 2. */
+static header read_head(const uint8_t *code)
+{
+    header h = {code[0], code[1], 0, 0, RMK_DONE};
+    if (h.d < 2 || h.d > MOST_AXES) {
+        h.refusal = RMK_REFUSED_DIMENSION;
+        return h;
+    }
+    if (h.depth > RMK_HALVINGS * h.d) {
+        h.refusal = RMK_REFUSED_DEPTH;
+        return h;
+    }
+    h.boxes = h.depth / h.d;
+    h.k = h.d - h.depth % h.d;
+    return h;
+}
+
+/* Refusals 4, 5 and 6. */
+static uint8_t body_refusal(const uint8_t *entries, header h)
+{
+    const uint8_t *orthants = entries + h.d;
+    if (!is_permutation(entries, h.d, MINUS - 1))
+        return RMK_REFUSED_PERMUTATION;
+    for (unsigned i = 0; i < h.boxes; i++)
+        if (orthants[i] >> h.d)
+            return RMK_REFUSED_ORTHANT;
+    unsigned own = own_sign(orthants, h.boxes);
+    for (unsigned i = 0; i < h.k; i++)
+        if (is_minus(entries[i]) != is_high(own, axis_of(entries[i])))
+            return RMK_REFUSED_SIGN;
+    return RMK_DONE;
+}
+
+/* The whole code check. */
+static header read_code(const uint8_t *code, size_t code_length)
+{
+    header h = {0, 0, 0, 0, RMK_REFUSED_LENGTH};
+    if (code_length < HEAD)
+        return h;
+    h = read_head(code);
+    if (h.refusal)
+        return h;
+    h.refusal = code_length == HEAD + h.d + h.boxes ? body_refusal(code + HEAD, h) : RMK_REFUSED_LENGTH;
+    return h;
+}
+
+uint8_t plain_code_check(const uint8_t *code, size_t code_length)
+{
+    return read_code(code, code_length).refusal;
+}
+
+/* Child 1 of a cell: the first k entries turn left, the moved one is negated. A fixed count is faster
+ * than one that varies. */
+static void turn_left(uint8_t *entries, unsigned k)
+{
+    uint8_t first = entries[0];
+    for (unsigned i = 1; i < MOST_AXES; i++)
+        if (i < k)
+            entries[i - 1] = entries[i];
+    entries[k - 1] = first ^ MINUS;
+}
+
+static void turn_right(uint8_t *entries, unsigned k)
+{
+    uint8_t last = entries[k - 1];
+    for (unsigned i = MOST_AXES - 1; i > 0; i--)
+        if (i < k)
+            entries[i] = entries[i - 1];
+    entries[0] = last ^ MINUS;
+}
+
+/* The orthant that a new level appends. */
+static uint8_t orthant_of(const uint8_t *entries, unsigned d)
+{
+    unsigned orthant = 0;
+    for (unsigned i = 0; i < d; i++)
+        orthant |= is_minus(entries[i]) << (axis_of(entries[i]) - 1);
+    return (uint8_t)orthant;
+}
+
+static uint8_t path_refusal(const uint8_t *root, size_t d, const uint8_t *path, size_t depth)
+{
+    if (d < 2 || d > MOST_AXES)
+        return RMK_REFUSED_DIMENSION;
+    if (depth > RMK_HALVINGS * d)
+        return RMK_REFUSED_DEPTH;
+    if (!is_permutation(root, (unsigned)d, 255))
+        return RMK_REFUSED_PERMUTATION;
+    for (size_t t = 0; t < depth; t++)
+        if (path[t] > 1)
+            return RMK_REFUSED_STEP;
+    return RMK_DONE;
+}
+
+rmk_written plain_path_to_code(const uint8_t *root, size_t root_length, const uint8_t *path,
+                               size_t path_length, uint8_t *code, size_t code_length)
+{
+    uint8_t refusal = path_refusal(root, root_length, path, path_length);
+    if (refusal)
+        return written(refusal, 0);
+    unsigned d = (unsigned)root_length, depth = (unsigned)path_length, k = d;
+    size_t length = HEAD + d + depth / d;
+    if (code_length < length)
+        return written(RMK_REFUSED_SHORT, 0);
+    uint8_t entries[MOST_AXES] = {0}, *orthant = code + HEAD + d;
+    memcpy(entries, root, d);
+    for (unsigned t = 0; t < depth; t++) {
+        if (path[t])
+            turn_left(entries, k);
+        if (--k == 0) {
+            *orthant++ = orthant_of(entries, d);
+            k = d;
+        }
+    }
+    code[0] = (uint8_t)d;
+    code[1] = (uint8_t)depth;
+    memcpy(code + HEAD, entries, d);
+    return written(RMK_DONE, length);
+}
+
+/* Takes back the step that halved at place k: it was step 0 exactly when entry k has the own sign of
+ * the box before it. Gives the step. */
+static uint8_t step_back(uint8_t *entries, unsigned k, unsigned own)
+{
+    uint8_t moved = entries[k - 1];
+    if (is_minus(moved) == is_high(own, axis_of(moved)))
+        return 0;
+    turn_right(entries, k);
+    return 1;
+}
+
+rmk_path_written plain_code_to_path(const uint8_t *code, size_t code_length, uint8_t *root,
+                                    size_t root_length, uint8_t *path, size_t path_length)
+{
+    header h = read_code(code, code_length);
+    rmk_path_written answer = {h.refusal, 0, 0};
+    if (!h.refusal && (root_length < h.d || path_length < h.depth))
+        answer.refusal = RMK_REFUSED_SHORT;
+    if (answer.refusal)
+        return answer;
+    const uint8_t *orthants = code + HEAD + h.d;
+    uint8_t entries[MOST_AXES] = {0};
+    memcpy(entries, code + HEAD, h.d);
+    for (unsigned t = h.depth, k = h.k, boxes = h.boxes; t-- > 0;) {
+        if (k == h.d) {
+            k = 0;
+            boxes--;
+        }
+        path[t] = step_back(entries, ++k, own_sign(orthants, boxes));
+    }
+    memcpy(root, entries, h.d);
+    answer.axes = h.d;
+    answer.depth = h.depth;
+    return answer;
+}
+
+static uint8_t *put_point(uint8_t *to, const unsigned *point, unsigned d)
+{
+    for (unsigned a = 0; a < d; a++) {
+        *to++ = (uint8_t)(point[a] & 255);
+        *to++ = (uint8_t)(point[a] >> 8);
+    }
+    return to;
+}
+
+/* Moves a point along an entry, in the entry's direction. */
+static void move(unsigned *point, uint8_t entry, unsigned by)
+{
+    unsigned *coordinate = &point[axis_of(entry) - 1];
+    *coordinate = is_minus(entry) ? *coordinate - by : *coordinate + by;
+}
+
+/* Vertex 0: the corner of the box from which every entry leads along the box. */
+static void first_vertex(unsigned *point, const uint8_t *entries, unsigned d, unsigned boxes)
+{
+    const uint8_t *orthants = entries + d;
+    for (unsigned i = 0; i < d; i++) {
+        unsigned axis = axis_of(entries[i]), steps = 0;
+        for (unsigned t = 0; t < boxes; t++)
+            steps = 2 * steps + is_high(orthants[t], axis);
+        point[axis - 1] = (steps + is_minus(entries[i])) * (RMK_CUBE_SIDE >> boxes);
+    }
+}
+
+rmk_written plain_vertices(const uint8_t *code, size_t code_length, uint8_t *points,
+                           size_t points_length)
+{
+    header h = read_code(code, code_length);
+    if (h.refusal)
+        return written(h.refusal, 0);
+    size_t length = 2 * h.d * (h.d + 1);
+    if (points_length < length)
+        return written(RMK_REFUSED_SHORT, 0);
+    const uint8_t *entries = code + HEAD;
+    unsigned side = RMK_CUBE_SIDE >> h.boxes, corner[MOST_AXES] = {0}, middle[MOST_AXES];
+    first_vertex(corner, entries, h.d, h.boxes);
+    memcpy(middle, corner, sizeof corner);
+    points = put_point(points, corner, h.d);
+    for (unsigned j = 0; j < h.d; j++) {
+        move(middle, entries[j], side / 2);
+        if (j < h.k)
+            move(corner, entries[j], side);
+        points = put_point(points, j < h.k ? corner : middle, h.d);
+    }
+    return written(RMK_DONE, length);
+}
+
+rmk_written plain_child(const uint8_t *code, size_t code_length, uint8_t which, uint8_t *out,
+                        size_t out_length)
+{
+    header h = read_code(code, code_length);
+    if (h.refusal)
+        return written(h.refusal, 0);
+    if (which > 1)
+        return written(RMK_REFUSED_STEP, 0);
+    if (h.depth == RMK_HALVINGS * h.d)
+        return written(RMK_REFUSED_DEEPEST, 0);
+    size_t length = h.k == 1 ? code_length + 1 : code_length;
+    if (out_length < length)
+        return written(RMK_REFUSED_SHORT, 0);
+    memcpy(out, code, code_length);
+    out[1] = (uint8_t)(h.depth + 1);
+    if (which)
+        turn_left(out + HEAD, h.k);
+    if (h.k == 1)
+        out[code_length] = orthant_of(out + HEAD, h.d);
+    return written(RMK_DONE, length);
+}
+
+rmk_written plain_parent(const uint8_t *code, size_t code_length, uint8_t *out, size_t out_length)
+{
+    header h = read_code(code, code_length);
+    if (h.refusal)
+        return written(h.refusal, 0);
+    if (h.depth == 0)
+        return written(RMK_REFUSED_ROOT, 0);
+    unsigned new_level = h.k == h.d, k = new_level ? 1 : h.k + 1;
+    size_t length = code_length - new_level;
+    if (out_length < length)
+        return written(RMK_REFUSED_SHORT, 0);
+    memcpy(out, code, length);
+    out[1] = (uint8_t)(h.depth - 1);
+    step_back(out + HEAD, k, own_sign(code + HEAD + h.d, h.boxes - new_level));
+    return written(RMK_DONE, length);
+}
+
+static void swap(uint8_t *p, uint8_t *q)
+{
+    uint8_t kept = *p;
+    *p = *q;
+    *q = kept;
+}
+
+/* The entries of the cell across a facet. Gives the place of the new vertex. */
+static unsigned cross_entries(uint8_t *entries, header h, unsigned facet, unsigned own)
+{
+    if (facet == h.d || (facet == 0 && h.k == h.d)) {
+        entries[facet == 0 ? 0 : h.d - 1] ^= MINUS;
+        return facet;
+    }
+    if (facet != 0 && facet != h.k) {
+        swap(&entries[facet - 1], &entries[facet]);
+        return facet;
+    }
+    unsigned has_own_sign = is_minus(entries[h.k]) == is_high(own, axis_of(entries[h.k]));
+    if (facet == 0 && has_own_sign) {
+        turn_left(entries, h.k + 1);
+        return h.k;
+    }
+    if (facet == 0) {
+        swap(&entries[0], &entries[h.k]);
+        entries[0] ^= MINUS;
+        entries[h.k] ^= MINUS;
+        return 0;
+    }
+    if (has_own_sign) {
+        swap(&entries[h.k - 1], &entries[h.k]);
+        return h.k;
+    }
+    turn_right(entries, h.k + 1);
+    return 0;
+}
+
+/* How many orthants, from the last one on, flip their bit when the box moves by its side on an axis: the
+ * carry ends at the first one whose bit is `last`. None if the move leaves the cube. */
+static unsigned carry(const uint8_t *orthants, unsigned boxes, unsigned bit, unsigned last)
+{
+    for (unsigned n = 1; n <= boxes; n++)
+        if ((orthants[boxes - n] & bit) == last)
+            return n;
+    return 0;
+}
+
+static rmk_crossed not_crossed(uint8_t refusal)
+{
+    rmk_crossed answer = {refusal, 0, 0};
+    return answer;
+}
+
+rmk_crossed plain_cross(const uint8_t *code, size_t code_length, uint8_t facet, uint8_t *out,
+                        size_t out_length)
+{
+    header h = read_code(code, code_length);
+    if (h.refusal)
+        return not_crossed(h.refusal);
+    if (facet > h.d)
+        return not_crossed(RMK_REFUSED_STEP);
+    const uint8_t *entries = code + HEAD, *orthants = entries + h.d;
+    uint8_t entry = facet == 0 ? entries[0] : entries[h.d - 1];
+    unsigned bit = 1u << (axis_of(entry) - 1), flips = 0;
+    unsigned leaves_box = facet == h.d || (facet == 0 && h.k == h.d);
+    if (facet == h.d)
+        flips = carry(orthants, h.boxes, bit, is_minus(entry) ? 0 : bit);
+    else if (leaves_box)
+        flips = h.boxes > 0; /* to the other half of the box above */
+    if (leaves_box && flips == 0)
+        return not_crossed(RMK_REFUSED_FACE);
+    if (out_length < code_length)
+        return not_crossed(RMK_REFUSED_SHORT);
+    memcpy(out, code, code_length);
+    for (unsigned n = 1; n <= flips; n++)
+        out[code_length - n] ^= (uint8_t)bit;
+    unsigned place = cross_entries(out + HEAD, h, facet, own_sign(orthants, h.boxes));
+    rmk_crossed answer = {RMK_DONE, (uint8_t)place, code_length};
+    return answer;
+}
+
+/* Where the next leaf starts. A root's stretch is 2^(greatest depth) long, and a cell of depth D takes
+ * 2^(greatest depth - D) of it, from its path's number on. */
+typedef struct {
+    unsigned d; /* 0 before the first record */
+    int complete;
+    uint8_t root[MOST_AXES];
+    uint64_t start;
+} frontier;
+
+static size_t record_length(header h) { return MARK + HEAD + h.d + h.boxes + 2 * (h.d + 1); }
+
+/* A record's own tests. */
+static header read_record(const uint8_t *record, size_t left)
+{
+    header h = {0, 0, 0, 0, RMK_REFUSED_RECORD};
+    if (left < MARK + HEAD || record[0] != 0x43 || record[1] != 0x4C)
+        return h;
+    h = read_head(record + MARK);
+    if (h.refusal)
+        return h;
+    if (left < MARK + HEAD + h.d + h.boxes)
+        h.refusal = RMK_REFUSED_RECORD;
+    else
+        h.refusal = body_refusal(record + MARK + HEAD, h);
+    if (!h.refusal && left < record_length(h))
+        h.refusal = RMK_REFUSED_RECORD;
+    return h;
+}
+
+/* A code's root, and where its cell starts on the root's stretch. */
+static uint64_t start_of(const uint8_t *entries, header h, uint8_t *root)
+{
+    const uint8_t *orthants = entries + h.d;
+    uint64_t start = 0, half = (uint64_t)1 << (RMK_HALVINGS * h.d - h.depth);
+    memcpy(root, entries, h.d);
+    for (unsigned t = h.depth, k = h.k, boxes = h.boxes; t-- > 0; half *= 2) {
+        if (k == h.d) {
+            k = 0;
+            boxes--;
+        }
+        if (step_back(root, ++k, own_sign(orthants, boxes)))
+            start += half;
+    }
+    return start;
+}
+
+/* The next permutation in dictionary order, or 0 after the last. */
+static int next_root(uint8_t *root, unsigned d)
+{
+    unsigned i = d - 1, j = d - 1;
+    while (i > 0 && root[i - 1] > root[i])
+        i--;
+    if (i == 0)
+        return 0;
+    while (root[j] < root[i - 1])
+        j--;
+    swap(&root[i - 1], &root[j]);
+    for (j = d - 1; i < j; i++, j--)
+        swap(&root[i], &root[j]);
+    return 1;
+}
+
+/* Moves past a leaf. Gives 0 if the cell is not the next one. */
+static int pass_leaf(frontier *next, const uint8_t *entries, header h)
+{
+    static const uint8_t first_root[MOST_AXES] = {1, 2, 3, 4};
+    uint8_t root[MOST_AXES] = {0};
+    if (next->d == 0) {
+        next->d = h.d;
+        memcpy(next->root, first_root, h.d);
+    }
+    if (next->d != h.d || next->complete)
+        return 0;
+    if (start_of(entries, h, root) != next->start || memcmp(root, next->root, h.d) != 0)
+        return 0;
+    next->start += (uint64_t)1 << (RMK_HALVINGS * h.d - h.depth);
+    if (next->start >> (RMK_HALVINGS * h.d)) {
+        next->start = 0;
+        next->complete = !next_root(next->root, h.d);
+    }
+    return 1;
+}
+
+rmk_sheet_answer plain_sheet_check(const uint8_t *sheet, size_t sheet_length)
+{
+    rmk_sheet_answer answer = {RMK_DONE, 0, 0};
+    frontier next = {0, 0, {0}, 0};
+    size_t at = 0, records = 0;
+    while (at < sheet_length) {
+        header h = read_record(sheet + at, sheet_length - at);
+        answer.refusal = h.refusal;
+        if (!h.refusal && !pass_leaf(&next, sheet + at + MARK + HEAD, h))
+            answer.refusal = RMK_REFUSED_LEAF;
+        if (answer.refusal)
+            break;
+        at += record_length(h);
+        records++;
+    }
+    if (!answer.refusal && !next.complete)
+        answer.refusal = RMK_REFUSED_LEAF;
+    if (answer.refusal)
+        answer.offset = at;
+    else
+        answer.records = records;
+    return answer;
+}

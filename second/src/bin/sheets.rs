@@ -1,0 +1,205 @@
+//! Compares the library's sheet check with the second program.
+
+use second::answers::SheetAnswer;
+use second::bisection::roots;
+use second::codes::Code;
+use second::finder::{Finder, Found};
+use second::inputs::{self, Options};
+use second::lent::Tally;
+use second::random::Random;
+use second::sheets::{samples_length, Sheets, MARK};
+use second::sizes::*;
+use second::worked;
+
+extern "C" {
+    fn rmk_sheet_check(sheet: *const u8, n: usize) -> SheetAnswer;
+}
+
+fn library(sheet: &[u8]) -> SheetAnswer {
+    unsafe { rmk_sheet_check(sheet.as_ptr(), sheet.len()) }
+}
+
+/// A cell with its record's bytes.
+#[derive(Clone)]
+struct Leaf {
+    cell: Found,
+    record: Vec<u8>,
+}
+
+/// A record of any samples, some of which look like marks.
+fn leaf(random: &mut Random, root: &[u8], path: &[u8]) -> Leaf {
+    let code = Code::at(root, path).bytes();
+    let mut samples = random.bytes(samples_length(root.len()));
+    if random.once_in(2) {
+        samples[2..4].copy_from_slice(&MARK);
+    }
+    let cell = Found { root: root.to_vec(), path: path.to_vec() };
+    Leaf { cell, record: [&MARK[..], &code, &samples].concat() }
+}
+
+/// The leaves of a tree that is split toward the target and elsewhere now and then.
+fn grow(random: &mut Random, cell: Found, target: &Found, leaves: &mut Vec<Leaf>) {
+    let toward = target.root == cell.root && target.path.starts_with(&cell.path);
+    let deeper = cell.path.len() < target.path.len();
+    let may = cell.path.len() < greatest_depth(cell.root.len());
+    if !(toward && deeper || may && random.once_in(6)) {
+        return leaves.push(leaf(random, &cell.root, &cell.path));
+    }
+    for which in 0..2 {
+        let path = [&cell.path[..], &[which]].concat();
+        grow(random, Found { root: cell.root.clone(), path }, target, leaves);
+    }
+}
+
+/// The leaves of a good sheet that has one at the depth at least.
+fn good_sheet(random: &mut Random, d: usize, depth: usize) -> Vec<Leaf> {
+    let path = inputs::good_path(random, depth);
+    let target = Found { root: inputs::good_root(random, d), path };
+    let mut leaves = Vec::new();
+    for root in roots(d) {
+        grow(random, Found { root, path: Vec::new() }, &target, &mut leaves);
+    }
+    leaves
+}
+
+fn bytes(leaves: &[Leaf]) -> Vec<u8> {
+    leaves.iter().flat_map(|leaf| leaf.record.clone()).collect()
+}
+
+struct Comparison<'a> {
+    sheets: Sheets<'a>,
+    random: Random,
+    tally: Tally,
+}
+
+impl Comparison<'_> {
+    fn sheet(&mut self, sheet: &[u8]) {
+        let second = |_: &mut [_; 0]| self.sheets.check(sheet);
+        let library = |_: &mut [_; 0]| library(sheet);
+        self.tally.compare("sheet_check", &[sheet], [], second, library);
+    }
+
+    /// The sheet with one leaf replaced by others.
+    fn replaced(&mut self, leaves: &[Leaf], at: usize, by: &[Leaf]) {
+        self.sheet(&bytes(&[&leaves[..at], by, &leaves[at + 1..]].concat()));
+    }
+
+    /// A leaf dropped, doubled, exchanged with another, or another dimension's before it or instead.
+    fn moved(&mut self, leaves: &[Leaf], at: usize) {
+        let own = leaves[at].clone();
+        self.replaced(leaves, at, &[]);
+        self.replaced(leaves, at, &[own.clone(), own.clone()]);
+        for other in [(at + 1) % leaves.len(), self.random.below(leaves.len())] {
+            let mut exchanged = leaves.to_vec();
+            exchanged.swap(at, other);
+            self.sheet(&bytes(&exchanged));
+        }
+        let (d, depth) = self.random.one_of(&every_depth());
+        let (root, path) = (roots(d)[0].clone(), inputs::good_path(&mut self.random, depth));
+        let strange = leaf(&mut self.random, &root, &path);
+        self.replaced(leaves, at, &[strange.clone()]);
+        self.replaced(leaves, at, &[strange, own]);
+    }
+
+    /// A leaf replaced by its parent, by one child, by both in either order, or by a cell anywhere.
+    fn resized(&mut self, leaves: &[Leaf], at: usize) {
+        let Found { root, path } = &leaves[at].cell;
+        let (d, depth) = (root.len(), path.len());
+        if depth > 0 {
+            let parent = leaf(&mut self.random, root, &path[..depth - 1]);
+            self.replaced(leaves, at, &[parent]);
+        }
+        if depth < greatest_depth(d) {
+            let steps = [0, 1].map(|which| [&path[..], &[which]].concat());
+            let [zero, one] = steps.map(|path| leaf(&mut self.random, root, &path));
+            self.replaced(leaves, at, &[zero.clone()]);
+            self.replaced(leaves, at, &[one.clone()]);
+            self.replaced(leaves, at, &[zero.clone(), one.clone()]);
+            self.replaced(leaves, at, &[one, zero]);
+        }
+        let other = inputs::good_root(&mut self.random, d);
+        let strange = leaf(&mut self.random, &other, path);
+        self.replaced(leaves, at, &[strange]);
+    }
+
+    /// The sheet cut at every byte, and with every byte changed.
+    fn damaged(&mut self, sheet: &[u8], values: &[u8]) {
+        (0..=sheet.len()).for_each(|end| self.sheet(&sheet[..end]));
+        let mut changed = sheet.to_vec();
+        for at in 0..sheet.len() {
+            let noise = self.random.byte();
+            for change in values.iter().chain(&[noise]) {
+                changed[at] = sheet[at] ^ change;
+                self.sheet(&changed);
+            }
+            changed[at] = sheet[at];
+        }
+    }
+
+    /// Bytes after the completing leaf: noise, parts of a record, a record.
+    fn lengthened(&mut self, leaves: &[Leaf]) {
+        let sheet = bytes(leaves);
+        for length in 0..40 {
+            let noise = self.random.bytes(length);
+            let shaped = inputs::noise(&mut self.random, length);
+            self.sheet(&[&sheet[..], &noise].concat());
+            self.sheet(&[&sheet[..], &MARK, &shaped].concat());
+        }
+        let again = leaves[self.random.below(leaves.len())].record.clone();
+        (0..=again.len()).for_each(|end| self.sheet(&[&sheet[..], &again[..end]].concat()));
+    }
+
+    /// One good sheet of a dimension and depth, and all that is done to it.
+    fn every_damage(&mut self, d: usize, depth: usize, values: &[u8]) {
+        let leaves = good_sheet(&mut self.random, d, depth);
+        self.sheet(&bytes(&leaves));
+        for at in 0..leaves.len() {
+            self.moved(&leaves, at);
+            self.resized(&leaves, at);
+        }
+        self.lengthened(&leaves);
+        self.damaged(&bytes(&leaves), values);
+    }
+
+    /// Inputs that every run has. Shallow sheets meet every change of every byte.
+    fn fixed(&mut self) {
+        let every_value: Vec<u8> = (1..=255).collect();
+        for d in DIMENSIONS {
+            (0..2).for_each(|depth| self.every_damage(d, depth, &every_value));
+        }
+        for (d, depth) in every_depth() {
+            self.every_damage(d, depth, &[1, 2, 128]);
+        }
+    }
+
+    /// As many more good sheets as were asked for, each also with one change, and noise.
+    fn random(&mut self, count: usize) {
+        let depths = every_depth();
+        for n in 0..count {
+            let (d, depth) = depths[n % depths.len()];
+            let leaves = good_sheet(&mut self.random, d, depth);
+            let mut sheet = bytes(&leaves);
+            self.sheet(&sheet);
+            let at = self.random.below(leaves.len());
+            self.resized(&leaves, at);
+            let at = self.random.below(sheet.len());
+            sheet[at] = self.random.byte();
+            self.sheet(&sheet);
+            let noise = inputs::noise(&mut self.random, n % 40);
+            self.sheet(&[&MARK[..], &noise].concat());
+            self.sheet(&noise);
+        }
+    }
+}
+
+fn main() {
+    let options = Options::read(20_000);
+    let finder = Finder::new();
+    worked::check(&finder);
+    let sheets = Sheets::new(&finder);
+    let random = Random::new(options.seed);
+    let mut comparison = Comparison { sheets, random, tally: Tally::new(&["sheet_check"]) };
+    comparison.fixed();
+    comparison.random(options.count);
+    comparison.tally.close();
+}

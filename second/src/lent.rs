@@ -1,0 +1,90 @@
+//! Lent outputs, and the comparison of two outcomes on the same input.
+
+use crate::random::Random;
+use std::fmt;
+
+/// More cells than any answer has, so that those past the lent ones can be watched too.
+const ROOM: usize = 96;
+
+/// A lent output: its first `length` cells are lent, and all of them hold a random pattern at first.
+#[derive(Clone, PartialEq)]
+pub struct Lent {
+    cells: [u8; ROOM],
+    length: usize,
+}
+
+impl Lent {
+    pub fn new(random: &mut Random, length: usize) -> Lent {
+        let mut cells = [0; ROOM];
+        for part in cells.chunks_mut(8) {
+            part.copy_from_slice(&random.next().to_le_bytes());
+        }
+        Lent { cells, length }
+    }
+
+    /// A length at or near that of an answer, or anywhere below it.
+    pub fn near(random: &mut Random, answer: usize) -> Lent {
+        let length = match random.below(4) {
+            0 => answer,
+            1 => answer.saturating_sub(1),
+            2 => random.below(answer + 1),
+            _ => answer + 1 + random.below(8),
+        };
+        Lent::new(random, length)
+    }
+
+    pub fn open(&mut self) -> &mut [u8] {
+        &mut self.cells[..self.length]
+    }
+}
+
+impl fmt::Debug for Lent {
+    fn fmt(&self, f: &mut fmt::Formatter) -> fmt::Result {
+        write!(f, "lent {} of these cells: {}", self.length, hex(&self.cells))
+    }
+}
+
+fn hex(bytes: &[u8]) -> String {
+    bytes.iter().map(|byte| format!("{byte:02x} ")).collect()
+}
+
+/// How many inputs each entry was compared on.
+pub struct Tally {
+    counts: Vec<(&'static str, usize)>,
+}
+
+impl Tally {
+    pub fn new(entries: &[&'static str]) -> Tally {
+        Tally { counts: entries.iter().map(|entry| (*entry, 0)).collect() }
+    }
+
+    /// Runs both programs on copies of the same lent outputs. Answers and all cells must be equal;
+    /// otherwise the input and both outcomes are printed and the run fails.
+    pub fn compare<const N: usize, A: PartialEq + fmt::Debug>(
+        &mut self,
+        entry: &str,
+        input: &[&[u8]],
+        lent: [Lent; N],
+        second: impl FnOnce(&mut [Lent; N]) -> A,
+        library: impl FnOnce(&mut [Lent; N]) -> A,
+    ) {
+        let (mut expected, mut given) = (lent.clone(), lent);
+        let answers = (second(&mut expected), library(&mut given));
+        let row = self.counts.iter_mut().find(|row| row.0 == entry);
+        row.expect("the tally lacks an entry").1 += 1;
+        if answers.0 == answers.1 && expected == given {
+            return;
+        }
+        println!("{entry} differs on");
+        input.iter().for_each(|slice| println!("  {} bytes: {}", slice.len(), hex(slice)));
+        println!("expected {:?}\n  {expected:?}", answers.0);
+        println!("given    {:?}\n  {given:?}", answers.1);
+        std::process::exit(1);
+    }
+
+    /// The last line of a run without a difference.
+    pub fn close(&self) {
+        let rows: Vec<String> = self.counts.iter().map(|(e, n)| format!("{e} {n}")).collect();
+        println!("no difference; inputs compared: {}", rows.join(", "));
+    }
+}

@@ -1,0 +1,18 @@
+//! The second program: document 01 by literal bisection, over paths and whole-number points.
+//!
+//! It shares nothing with the proved library but the document. A code is never read by arithmetic: its
+//! cell is found by walking down from the roots with the document's own step rule, and everything else
+//! is then said of the root and the path. Slow and descriptive; it serves comparison alone.
+
+pub mod answers; // the answers as the C side lays them out
+pub mod bisection; // "The cube and the bisection": points, roots, cells
+pub mod codes; // "The code": the step rule and the bytes
+pub mod crossing; // "Crossing", by geometry and by listing all cells
+pub mod entries; // the expected outcome of each entry on a code
+pub mod finder; // the root and the path of a code, by search
+pub mod inputs; // good, damaged and random inputs
+pub mod lent; // lent outputs and the comparison of outcomes
+pub mod random; // a repeatable source of numbers
+pub mod sheets; // "Sheets": records, and the forest that they are the leaves of
+pub mod sizes; // sizes and refusal numbers
+pub mod worked; // the cells worked by hand

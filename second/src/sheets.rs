@@ -1,0 +1,132 @@
+//! Document 01, "Sheets": records, and the trees that they are the leaves of, built by recursion.
+
+use crate::answers::SheetAnswer;
+use crate::bisection::roots;
+use crate::entries::Reading;
+use crate::finder::{Finder, Found};
+use crate::sizes::*;
+use std::cell::RefCell;
+use std::collections::HashMap;
+
+pub const MARK: [u8; 2] = [0x43, 0x4c];
+
+/// Bytes of the samples of one record.
+pub fn samples_length(d: usize) -> usize {
+    2 * (d + 1)
+}
+
+/// A refusal and the offset of the record at which it was found.
+type Refused = (u8, usize);
+
+/// A whole record that passed its own tests: its cell, and where the bytes after it start.
+struct Record {
+    cell: Found,
+    end: usize,
+}
+
+/// A cell that is a leaf, or one whose children are trees.
+enum Tree {
+    Leaf,
+    Split(Box<Tree>, Box<Tree>),
+}
+
+impl Tree {
+    fn leaves(&self) -> usize {
+        match self {
+            Tree::Leaf => 1,
+            Tree::Split(zero, one) => zero.leaves() + one.leaves(),
+        }
+    }
+}
+
+/// Reads sheets. What the finder said of a code is kept, since sheets repeat their codes.
+pub struct Sheets<'a> {
+    finder: &'a Finder,
+    known: RefCell<HashMap<Vec<u8>, Reading>>,
+}
+
+impl<'a> Sheets<'a> {
+    pub fn new(finder: &'a Finder) -> Sheets<'a> {
+        Sheets { finder, known: RefCell::new(HashMap::new()) }
+    }
+
+    pub fn check(&self, sheet: &[u8]) -> SheetAnswer {
+        match self.forest(sheet) {
+            Ok(trees) => {
+                let records = trees.iter().map(Tree::leaves).sum();
+                SheetAnswer { refusal: DONE, offset: 0, records }
+            }
+            Err((refusal, offset)) => SheetAnswer { refusal, offset, records: 0 },
+        }
+    }
+
+    /// The trees of all roots, in order. Bytes after them are read as one more record, and none is next.
+    fn forest(&self, sheet: &[u8]) -> Result<Vec<Tree>, Refused> {
+        let mut at = 0;
+        let d = self.next(sheet, at)?.cell.root.len();
+        let mut trees = Vec::new();
+        for root in roots(d) {
+            trees.push(self.tree(sheet, &mut at, &Found { root, path: Vec::new() })?);
+        }
+        if at < sheet.len() {
+            self.next(sheet, at)?;
+            return Err((REFUSED_LEAF, at));
+        }
+        Ok(trees)
+    }
+
+    /// The tree of a cell: the next record is the cell itself, or lies inside it.
+    fn tree(&self, sheet: &[u8], at: &mut usize, cell: &Found) -> Result<Tree, Refused> {
+        let record = self.next(sheet, *at)?;
+        if record.cell == *cell {
+            *at = record.end;
+            return Ok(Tree::Leaf);
+        }
+        if record.cell.root != cell.root || !record.cell.path.starts_with(&cell.path) {
+            return Err((REFUSED_LEAF, *at));
+        }
+        let mut half = |which| {
+            let path = [&cell.path[..], &[which]].concat();
+            self.tree(sheet, at, &Found { root: cell.root.clone(), path }).map(Box::new)
+        };
+        Ok(Tree::Split(half(0)?, half(1)?))
+    }
+
+    /// The record at an offset where one is wanted; the sheet's end there is an early end.
+    fn next(&self, sheet: &[u8], at: usize) -> Result<Record, Refused> {
+        if at == sheet.len() {
+            return Err((REFUSED_LEAF, at));
+        }
+        self.record(sheet, at).map_err(|refusal| (refusal, at))
+    }
+
+    /// A record's own tests, in the document's order.
+    fn record(&self, sheet: &[u8], at: usize) -> Result<Record, u8> {
+        let part = |from: usize, length: usize| sheet.get(from..from + length).ok_or(REFUSED_RECORD);
+        if part(at, 2)? != MARK {
+            return Err(REFUSED_RECORD);
+        }
+        let head = part(at + 2, 2)?;
+        let (d, depth) = (head[0] as usize, head[1] as usize);
+        if !is_dimension(d) {
+            return Err(REFUSED_DIMENSION);
+        }
+        if depth > greatest_depth(d) {
+            return Err(REFUSED_DEPTH);
+        }
+        let code = part(at + 2, code_length(d, depth))?;
+        let cell = self.read(code)?;
+        let samples = at + 2 + code.len();
+        part(samples, samples_length(d))?;
+        Ok(Record { cell, end: samples + samples_length(d) })
+    }
+
+    fn read(&self, code: &[u8]) -> Reading {
+        if let Some(reading) = self.known.borrow().get(code) {
+            return reading.clone();
+        }
+        let reading = self.finder.read(code);
+        self.known.borrow_mut().insert(code.to_vec(), reading.clone());
+        reading
+    }
+}

@@ -1,0 +1,106 @@
+//! Document 01, "Cells worked by hand", copied from the document. The second program is held to them
+//! before anything is compared with it.
+
+use crate::answers::{Crossed, SheetAnswer};
+use crate::bisection::Cell;
+use crate::codes::Code;
+use crate::crossing;
+use crate::entries;
+use crate::finder::{Finder, Found};
+use crate::sheets::Sheets;
+use crate::sizes::*;
+
+/// A root, a path and the code: P1 to P5, and the good code of P9.
+const PATHS: [(&[u8], &[u8], &[u8]); 6] = [
+    (&[1, 2], &[], &[0x02, 0x00, 0x01, 0x02]),
+    (&[1, 2], &[1], &[0x02, 0x01, 0x02, 0x81]),
+    (&[1, 2], &[0, 1], &[0x02, 0x02, 0x81, 0x02, 0x01]),
+    (&[1, 2], &[0, 1, 0, 1], &[0x02, 0x04, 0x01, 0x02, 0x01, 0x00]),
+    (&[1, 2, 3], &[1], &[0x03, 0x01, 0x02, 0x03, 0x81]),
+    (&[2, 1], &[1], &[0x02, 0x01, 0x01, 0x82]),
+];
+
+/// The vertices of P1 to P4.
+const VERTICES: [[[u32; 2]; 3]; 4] = [
+    [[0, 0], [4096, 0], [4096, 4096]],
+    [[4096, 0], [4096, 4096], [2048, 2048]],
+    [[4096, 0], [2048, 0], [2048, 2048]],
+    [[2048, 0], [3072, 0], [3072, 1024]],
+];
+
+/// P9: bad codes.
+const SIGNS: [&[u8]; 2] = [&[0x02, 0x01, 0x81, 0x02], &[0x02, 0x00, 0x01, 0x82]];
+
+/// A code, a facet, and what is across: P6, P7, P8. Refusal 8 where there is nothing.
+const CROSSINGS: [(&[u8], u8, Option<(&[u8], u8)>); 8] = [
+    (&[0x02, 0x00, 0x01, 0x02], 1, Some((&[0x02, 0x00, 0x02, 0x01], 1))),
+    (&[0x02, 0x00, 0x01, 0x02], 0, None),
+    (&[0x02, 0x00, 0x01, 0x02], 2, None),
+    (&[0x02, 0x01, 0x01, 0x02], 0, Some((&[0x02, 0x01, 0x02, 0x81], 1))),
+    (&[0x02, 0x01, 0x02, 0x81], 1, Some((&[0x02, 0x01, 0x01, 0x02], 0))),
+    (&[0x02, 0x02, 0x81, 0x02, 0x01], 0, Some((&[0x02, 0x02, 0x01, 0x02, 0x00], 0))),
+    (&[0x02, 0x02, 0x81, 0x02, 0x01], 1, Some((&[0x02, 0x02, 0x02, 0x81, 0x01], 1))),
+    (&[0x02, 0x02, 0x81, 0x02, 0x01], 2, None),
+];
+
+/// The sheet of "The listing program".
+const SHEET: [u8; 24] = [
+    0x43, 0x4c, 0x02, 0x00, 0x01, 0x02, 0x0a, 0x00, 0x14, 0x00, 0x32, 0x00, //
+    0x43, 0x4c, 0x02, 0x00, 0x02, 0x01, 0x0a, 0x00, 0x1e, 0x00, 0x32, 0x00,
+];
+
+/// The codes that the worked cases name.
+pub fn codes() -> Vec<Vec<u8>> {
+    PATHS.iter().map(|row| row.2.to_vec()).chain(SIGNS.map(|code| code.to_vec())).collect()
+}
+
+/// Fails on the first case that the second program does not give.
+pub fn check(finder: &Finder) {
+    for (root, path, code) in PATHS {
+        assert_eq!(Code::at(root, path).bytes(), code);
+        assert_eq!(finder.read(code), Ok(Found { root: root.to_vec(), path: path.to_vec() }));
+    }
+    for (row, vertices) in PATHS.iter().zip(VERTICES) {
+        let points = Cell::at(row.0, row.1).vertices;
+        assert_eq!(points, vertices.map(|[x, y]| [x, y, 0, 0]));
+    }
+    for code in SIGNS {
+        assert_eq!(finder.read(code), Err(REFUSED_SIGN));
+    }
+    crossings(finder);
+    limits(finder);
+    sheets(finder);
+}
+
+fn crossings(finder: &Finder) {
+    for (code, facet, across) in CROSSINGS {
+        let mut out = [0; 18];
+        let crossed = crossing::cross(&finder.read(code), facet, &mut out);
+        let expected = match across {
+            None => Crossed::refused(REFUSED_FACE),
+            Some((other, place)) => Crossed { refusal: DONE, place, length: other.len() },
+        };
+        assert_eq!(crossed, expected);
+        assert_eq!(&out[..crossed.length], across.map_or(&[][..], |row| row.0));
+    }
+}
+
+/// Dimension 2 at depth 24 is good, 25 is refusal 2; child of depth 24 is refusal 10.
+fn limits(finder: &Finder) {
+    let deepest = Code::at(&[1, 2], &[0; 24]).bytes();
+    let reading = finder.read(&deepest);
+    assert_eq!(entries::code_check(&reading), DONE);
+    assert_eq!(entries::child(&reading, 0, &mut [0; 32]).refusal, REFUSED_DEEPEST);
+    let deeper = [&[2, 25], &deepest[2..]].concat();
+    assert_eq!(finder.read(&deeper), Err(REFUSED_DEPTH));
+    assert_eq!(entries::path_to_code(&[1, 2], &[0; 25], &mut [0; 32]).refusal, REFUSED_DEPTH);
+}
+
+/// The whole sheet is good, its first 12 bytes are refusal 14 at 12, an empty sheet is 14 at 0.
+fn sheets(finder: &Finder) {
+    let sheets = Sheets::new(finder);
+    let early = |offset| SheetAnswer { refusal: REFUSED_LEAF, offset, records: 0 };
+    assert_eq!(sheets.check(&SHEET), SheetAnswer { refusal: DONE, offset: 0, records: 2 });
+    assert_eq!(sheets.check(&SHEET[..12]), early(12));
+    assert_eq!(sheets.check(&[]), early(0));
+}
