@@ -2,8 +2,8 @@
  * bench.c: time per call of each entry, ours beside plain C, as a table in markdown.
  *
  * Both run over the same random good inputs of every dimension and depth, in rounds that alternate, and
- * the least time of each counts. Both are called through pointers from here and stand in files of their
- * own, so that neither is inlined. Outputs are lent at their longest and not cleared between calls.
+ * the medians count. Both are called through pointers from here and stand in files of their own, so that
+ * neither is inlined. Outputs are lent at their longest and not cleared between calls.
  */
 #define _POSIX_C_SOURCE 199309L
 #include "plain.h"
@@ -14,7 +14,7 @@
 #include <time.h>
 
 #define CODES 8192
-#define ROUNDS 200
+#define ROUNDS 600
 #define SHEET_BYTES 400000
 
 /* One program's entries. */
@@ -74,7 +74,7 @@ static void random_sample(size_t n)
     sample *s = &samples[n];
     uint8_t *root = sample_roots[n];
     s->d = (uint8_t)(2 + random_below(3));
-    s->depth = (uint8_t)random_below(RMK_HALVINGS * s->d + 1);
+    s->depth = (uint8_t)random_below((uint64_t)RMK_HALVINGS * s->d + 1);
     s->which = (uint8_t)random_below(2);
     s->facet = (uint8_t)random_below(s->d + 1u);
     for (size_t a = 0; a < s->d; a++) { /* each axis goes to a random place among those before */
@@ -165,7 +165,7 @@ static uint64_t code_to_path_round(const entries *e)
 
 static uint64_t vertices_round(const entries *e)
 {
-    uint8_t points[RMK_MOST_POINTS] = {0};
+    uint8_t points[RMK_LONGEST_POINTS] = {0};
     uint64_t sum = 0;
     for (const sample *s = samples; s < samples + CODES; s++) {
         sum += e->vertices(s->code, s->length, points, sizeof points).length;
@@ -226,19 +226,31 @@ static double time_of(round_of *round, const entries *e, uint64_t expected)
     return (double)(end.tv_sec - begin.tv_sec) * 1e9 + (double)(end.tv_nsec - begin.tv_nsec);
 }
 
-static double least(double a, double b) { return a < b ? a : b; }
+static int by_size(const void *p, const void *q)
+{
+    double a = *(const double *)p, b = *(const double *)q;
+    return (a > b) - (a < b);
+}
 
-/* One row of the table: the least round of each, for each of `calls` calls or records. */
+static double median(double *values)
+{
+    qsort(values, ROUNDS, sizeof *values, by_size);
+    return values[ROUNDS / 2];
+}
+
+/* One row of the table, for each of `calls` calls or records. The ratio is the median of the rounds' own
+ * ratios: the two halves of a round meet the same machine, busy or not. */
 static void row(const char *name, round_of *round, size_t calls)
 {
-    double our_time = 1e18, plain_time = 1e18;
+    static double our_times[ROUNDS], plain_times[ROUNDS], ratios[ROUNDS];
     uint64_t sum = round(&plain);
-    for (int n = 0; n < ROUNDS; n++) {
-        our_time = least(our_time, time_of(round, &ours, sum));
-        plain_time = least(plain_time, time_of(round, &plain, sum));
+    for (size_t n = 0; n < ROUNDS; n++) {
+        our_times[n] = time_of(round, &ours, sum);
+        plain_times[n] = time_of(round, &plain, sum);
+        ratios[n] = our_times[n] / plain_times[n];
     }
-    printf("| %s | %.1f | %.1f | %.2f |\n", name, our_time / (double)calls,
-           plain_time / (double)calls, our_time / plain_time);
+    printf("| %s | %.1f | %.1f | %.2f |\n", name, median(our_times) / (double)calls,
+           median(plain_times) / (double)calls, median(ratios));
 }
 
 int main(void)

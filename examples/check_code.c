@@ -35,7 +35,7 @@ static void print_code(const char *name, const uint8_t *code, size_t length)
 /* One line for each vertex; a coordinate is two bytes, low byte first. */
 static void print_vertices(const uint8_t *code, size_t length)
 {
-    uint8_t points[RMK_MOST_POINTS];
+    uint8_t points[RMK_LONGEST_POINTS];
     rmk_written written = rmk_vertices(code, length, points, sizeof points);
     size_t d = code[0];
     for (size_t at = 0; at < written.length; at += 2 * d) {

@@ -29,12 +29,12 @@ extern "C" {
 #endif
 
 /* Sizes. The longest ones suffice as lent outputs in every dimension. */
-#define RMK_HALVINGS 12     /* the greatest depth is this times the dimension */
-#define RMK_CUBE_SIDE 4096  /* two to the power RMK_HALVINGS */
-#define RMK_LONGEST_ROOT 4  /* bytes: d */
-#define RMK_LONGEST_PATH 48 /* bytes: one for each step */
-#define RMK_LONGEST_CODE 18 /* bytes: 2 + d + depth div d */
-#define RMK_MOST_POINTS 40  /* bytes: 2 d (d + 1) */
+#define RMK_HALVINGS 12       /* the greatest depth is this times the dimension */
+#define RMK_CUBE_SIDE 4096    /* two to the power RMK_HALVINGS */
+#define RMK_LONGEST_ROOT 4    /* bytes: d */
+#define RMK_LONGEST_PATH 48   /* bytes: one for each step */
+#define RMK_LONGEST_CODE 18   /* bytes: 2 + d + depth div d */
+#define RMK_LONGEST_POINTS 40 /* bytes: 2 d (d + 1) */
 
 /* Refusal numbers. */
 #define RMK_DONE 0

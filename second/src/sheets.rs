@@ -102,7 +102,8 @@ impl<'a> Sheets<'a> {
 
     /// A record's own tests, in the document's order.
     fn record(&self, sheet: &[u8], at: usize) -> Result<Record, u8> {
-        let part = |from: usize, length: usize| sheet.get(from..from + length).ok_or(REFUSED_RECORD);
+        let part =
+            |from: usize, length: usize| sheet.get(from..from + length).ok_or(REFUSED_RECORD);
         if part(at, 2)? != MARK {
             return Err(REFUSED_RECORD);
         }

@@ -7,6 +7,8 @@ use crate::codes::Code;
 use crate::crossing;
 use crate::entries;
 use crate::finder::{Finder, Found};
+use crate::inputs::{good_path, good_root};
+use crate::random::Random;
 use crate::sheets::Sheets;
 use crate::sizes::*;
 
@@ -70,6 +72,7 @@ pub fn check(finder: &Finder) {
     crossings(finder);
     limits(finder);
     sheets(finder);
+    signed_entries();
 }
 
 fn crossings(finder: &Finder) {
@@ -103,4 +106,22 @@ fn sheets(finder: &Finder) {
     assert_eq!(sheets.check(&SHEET), SheetAnswer { refusal: DONE, offset: 0, records: 2 });
     assert_eq!(sheets.check(&SHEET[..12]), early(12));
     assert_eq!(sheets.check(&[]), early(0));
+}
+
+/// Not worked by hand, but said of every cell: for j up to k, vj minus v(j-1) is plus or minus s on the
+/// entry's axis, by the entry's sign. It ties the code's rule to the bisection.
+fn signed_entries() {
+    let mut random = Random::new(1);
+    for (d, depth) in every_depth().repeat(8) {
+        let (root, path) = (good_root(&mut random, d), good_path(&mut random, depth));
+        let (cell, code) = (Cell::at(&root, &path), Code::at(&root, &path));
+        let side = (CUBE_SIDE >> (depth / d)) as i64;
+        for j in 1..=cell.split_place() {
+            let entry = code.entries[j - 1];
+            let moved = |a: usize| cell.vertices[j][a] as i64 - cell.vertices[j - 1][a] as i64;
+            let along = |a: usize| a + 1 == entry.unsigned_abs() as usize;
+            let steps = |a: usize| if along(a) { entry.signum() as i64 * side } else { 0 };
+            assert!((0..d).all(|a| moved(a) == steps(a)), "entry {j} of {root:?} {path:?}");
+        }
+    }
 }

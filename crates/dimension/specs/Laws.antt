@@ -180,10 +180,25 @@ rootsOf Two = 2
 rootsOf Three = 6
 rootsOf Four = 24
 
--- what the code computes of the sizes: division by an axes count that is a variable
-pub boxes-few : (d D : ℕ) → Dimension d → D ≤ greatestDepth d → D / d ≤ 15
-unfolding boxDepth
+-- what the code computes of the sizes, case by case
+pub boxes-few : (d D : ℕ) → Dimension d → D ≤ greatestDepth d → boxDepth d D ≤ 15
 boxes-few d D n h = omega (arith, box-in d D (omega (arith, n .two)) h, halvings-few)
+
+pub box-small : (d D : ℕ) → Dimension d → boxDepth d D ≤ D / 2
+unfolding boxDepth
+box-small d D n = div-le D d (n .two)
+
+-- the dimension that is neither 2 nor 3
+pub four : {d : ℕ} → Dimension d → (d ≡ 2 → ⊥) → (d ≡ 3 → ⊥) → d ≡ 4
+four n a b = omega (arith, n .two, n .few)
+
+pub box-depth-by : (d D n : ℕ) → d ≡ n → D / n ≡ boxDepth d D
+unfolding boxDepth
+box-depth-by d D n e = rw e
+
+pub split-place-by : (d D n : ℕ) → d ≡ n → n - D % n ≡ splitPlace d D
+unfolding splitPlace level
+split-place-by d D n e = rw e
 
 pub root-count : (d : Dim) (n : ℕ) → n ≡ rootsOf d → n ≡ rootCount (axesOf d)
 unfolding rootCount

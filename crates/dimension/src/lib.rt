@@ -2,8 +2,9 @@
 // specs/Sizes.antt for the contracts. To change the halvings, edit HALVINGS and CUBE_SIDE here and
 // `halvings` there; nothing else in code or definitions names a number of them.
 ghost use mathlib.Core.Path.{_≡_};
+ghost use mathlib.Core.Bool.{true};
 ghost use Prim.Native.Nat.{_≤_};
-ghost use Rattle.dimension.specs.Sizes.{axesOf, greatestDepth, cubeSide, boxSide, codeLength, longestCode, rootCount};
+ghost use Rattle.dimension.specs.Sizes.{isDimension, axesOf, greatestDepth, boxDepth, splitPlace, boxSide, codeLength, longestCode, rootCount};
 ghost use Rattle.dimension.specs.Known.{KnownIs};
 
 // A dimension that is built.
@@ -37,6 +38,18 @@ impl Dim {
         }
     }
 
+    // The dimension that a byte names which is known to name one.
+    pub fn checked(byte: u8) -> Self
+        requires { ⌜ isDimension byte ≡ true ⌝ }
+        ensures { λ r. ⌜ axesOf r ≡ byte ⌝ }
+    {
+        match byte {
+            2 => Dim::Two,
+            3 => Dim::Three,
+            _ => Dim::Four,
+        }
+    }
+
     // How many axes there are.
     pub fn axes(self) -> usize
         ensures { λ r. ⌜ r ≡ axesOf self ⌝ }
@@ -66,12 +79,39 @@ impl Dim {
         }
     }
 
+    // How often the cube was halved to give the box at a depth. Each division is by a constant.
+    pub fn box_depth(self, depth: usize) -> usize
+        ensures { λ r. ⌜ r ≡ boxDepth (axesOf self) depth ⌝ }
+    {
+        let axes = self.axes();
+        if axes == 2 {
+            return depth / 2;
+        }
+        if axes == 3 {
+            return depth / 3;
+        }
+        depth / 4
+    }
+
+    // The place k of the split edge's second end at a depth.
+    pub fn split_place(self, depth: usize) -> usize
+        ensures { λ r. ⌜ r ≡ splitPlace (axesOf self) depth ⌝ }
+    {
+        let axes = self.axes();
+        if axes == 2 {
+            return 2 - depth % 2;
+        }
+        if axes == 3 {
+            return 3 - depth % 3;
+        }
+        4 - depth % 4
+    }
+
     // The length of a code at a depth.
     pub fn code_length(self, depth: usize) -> usize
         ensures { λ r. ⌜ r ≡ codeLength (axesOf self) depth ⌝ }
     {
-        let axes = self.axes();
-        2 + axes + depth / axes
+        2 + self.axes() + self.box_depth(depth)
     }
 
     // The length of a code at the greatest depth.
@@ -86,6 +126,6 @@ impl Dim {
         requires { ⌜ depth ≤ greatestDepth (axesOf self) ⌝ }
         ensures { λ r. ⌜ r ≡ boxSide (axesOf self) depth ⌝ }
     {
-        Dim::CUBE_SIDE >> (depth / self.axes())
+        Dim::CUBE_SIDE >> self.box_depth(depth)
     }
 }

@@ -81,12 +81,10 @@ impl Comparison {
     }
 
     fn code_to_path(&mut self, code: &[u8], read: &Reading, lent: [Lent; 2]) {
-        let second = |[root, path]: &mut [Lent; 2]| {
-            entries::code_to_path(read, root.open(), path.open())
-        };
-        let library = |[root, path]: &mut [Lent; 2]| {
-            library::code_to_path(code, root.open(), path.open())
-        };
+        let second =
+            |[root, path]: &mut [Lent; 2]| entries::code_to_path(read, root.open(), path.open());
+        let library =
+            |[root, path]: &mut [Lent; 2]| library::code_to_path(code, root.open(), path.open());
         self.tally.compare("code_to_path", &[code], lent, second, library);
     }
 
@@ -112,8 +110,11 @@ impl Comparison {
     fn code(&mut self, code: &[u8]) {
         let read = self.finder.read(code);
         let random = &mut self.random;
-        let (d, depth) = read.as_ref().map_or((4, 48), |f| (f.root.len(), f.path.len()));
-        let outputs = [d, depth, 2 * d * (d + 1), code.len(), code.len()];
+        let deepest = (MOST_AXES, greatest_depth(MOST_AXES));
+        let (d, depth) = read.as_ref().map_or(deepest, |f| (f.root.len(), f.path.len()));
+        let below = code_length(d, depth + 1);
+        let above = code_length(d, depth.saturating_sub(1));
+        let outputs = [d, depth, 2 * d * (d + 1), below, above];
         let [root, path, points, child, parent] = outputs.map(|n| Lent::near(random, n));
         let which = random.one_of(&[0, 0, 0, 1, 1, 1, 2, 255]);
         self.code_check(code, &read);

@@ -1,0 +1,130 @@
+-- What each entry of the code layer answers, for every input: the answer and every lent cell, refusals too.
+-- Document 01, "The code" and "Refusal numbers". `before` and `after` are a lent buffer at entry and at exit.
+use mathlib.Core.Path.{_≡_}
+use mathlib.Core.Bool.{Bool, not, _&&_, cond}
+use mathlib.Core.List.{List, [], _∷_, _++_}
+use mathlib.Core.Logic.{_≢_}
+use Prim.Native.Nat.{ℕ, suc, _+_, _-_, _*_, _/_, _%_, _≤_}
+use lib.Dec.{leb, ltb, eqb}
+use lib.ListN.{length, getD, drop}
+use Rattle.dimension.specs.Sizes.{isDimension, greatestDepth, codeLength}
+use Rattle.bisection.specs.Cells.{Point, Cell, cellOf}
+use Rattle.bisection.specs.Codes.{minus, codeOf, IsCodeOf, dimensionOf, depthOf, childCode}
+use Rattle.bisection.specs.Refusals.{done, refusedDimension, refusedDepth, refusedPermutation, refusedStep, refusedRoot, refusedDeepest, refusedShort, need, _then_, each, permutes, headRefusal, bodyRefusal, codeRefusal}
+use Rattle.codes.specs.declared.Head.{Head}
+use Rattle.codes.specs.declared.Written.{Written}
+use Rattle.codes.specs.declared.PathWritten.{PathWritten}
+
+-- the head of a code: refusal 1 or 2, or the code's length
+pub record HeadIs (dimension depth : ℕ) (r : Head) : Type 0 where
+  pub refusal : r .refusal ≡ headRefusal dimension depth
+  pub length : r .length ≡ cond (eqb (headRefusal dimension depth) done) (codeLength dimension depth) 0
+
+-- what becomes of a lent buffer: refused, nothing changes and the length is 0; done, the answer stands at its front
+-- and the cells past it keep their content
+pub record Writes (refusal : ℕ) (answer before : List ℕ) (r : Written) (after : List ℕ) : Type 0 where
+  pub number : r .refusal ≡ refusal
+  pub refused : refusal ≢ done → (r .length ≡ 0) × (after ≡ before)
+  pub written : refusal ≡ done → (r .length ≡ length answer) × (after ≡ answer ++ drop (length answer) before)
+
+-- a root's bytes: axes 1..d, none repeated, and none with a sign
+unfoldable pub isRoot : List ℕ → Bool
+isRoot root = permutes (length root) root && each (length root) (λ i. not (minus (getD root i 0)))
+
+-- a path's bytes: 0 or 1
+unfoldable pub isPath : List ℕ → Bool
+isPath path = each (length path) (λ i. leb (getD path i 0) 1)
+
+-- path to code: 1 (root length), 2 (path length), 4, 7, 11
+unfoldable pub pathRefusal : List ℕ → List ℕ → ℕ → ℕ
+pathRefusal root path room =
+    need (isDimension (length root)) refusedDimension
+    then need (leb (length path) (greatestDepth (length root))) refusedDepth
+    then need (isRoot root) refusedPermutation
+    then need (isPath path) refusedStep
+    then need (leb (codeLength (length root) (length path)) room) refusedShort
+
+abbrev pub PathToCode : List ℕ → List ℕ → List ℕ → Written → List ℕ → Type 0
+PathToCode root path before r after = Writes (pathRefusal root path (length before)) (codeOf root path) before r after
+
+-- code to path fills two buffers or neither
+unfoldable pub toPathRefusal : List ℕ → ℕ → ℕ → ℕ
+toPathRefusal code rootRoom pathRoom =
+    codeRefusal code
+    then need (leb (dimensionOf code) rootRoom && leb (depthOf code) pathRoom) refusedShort
+
+-- the root and the path whose code it is stand at the buffers' fronts
+pub record PathOf (code roots paths : List ℕ) (r : PathWritten) (roots' paths' : List ℕ) : Type 0 where
+  pub root : List ℕ
+  pub path : List ℕ
+  pub code-of : IsCodeOf code root path
+  pub axes : r .axes ≡ length root
+  pub depth : r .depth ≡ length path
+  pub root-written : roots' ≡ root ++ drop (length root) roots
+  pub path-written : paths' ≡ path ++ drop (length path) paths
+
+pub record CodeToPath (code roots paths : List ℕ) (r : PathWritten) (roots' paths' : List ℕ) : Type 0 where
+  pub number : r .refusal ≡ toPathRefusal code (length roots) (length paths)
+  pub refused : toPathRefusal code (length roots) (length paths) ≢ done → (r .axes ≡ 0) × (r .depth ≡ 0) × (roots' ≡ roots) × (paths' ≡ paths)
+  pub written : toPathRefusal code (length roots) (length paths) ≡ done → PathOf code roots paths r roots' paths'
+
+-- a coordinate is two bytes, low byte first; a point its coordinates, a cell its points, in order
+unfoldable pub pointBytes : Point → List ℕ
+pointBytes [] = []
+pointBytes (x ∷ v) = x % 256 ∷ x / 256 ∷ pointBytes v
+
+unfoldable pub cellBytes : Cell → List ℕ
+cellBytes [] = []
+cellBytes (v ∷ vs) = pointBytes v ++ cellBytes vs
+
+-- d + 1 points of d coordinates of two bytes
+unfoldable pub cellLength : ℕ → ℕ
+cellLength d = suc d * (2 * d)
+
+unfoldable pub verticesRefusal : List ℕ → ℕ → ℕ
+verticesRefusal code room =
+    codeRefusal code
+    then need (leb (cellLength (dimensionOf code)) room) refusedShort
+
+-- the bytes of the bisection's cell of that code
+pub record VerticesOf (code answer : List ℕ) : Type 0 where
+  pub root : List ℕ
+  pub path : List ℕ
+  pub code-of : IsCodeOf code root path
+  pub is : answer ≡ cellBytes (cellOf root path)
+
+pub record Vertices (code before : List ℕ) (r : Written) (after : List ℕ) : Type 0 where
+  pub answer : List ℕ
+  pub writes : Writes (verticesRefusal code (length before)) answer before r after
+  pub vertices : verticesRefusal code (length before) ≡ done → VerticesOf code answer
+
+-- child: the code's own; 7; 10; 11
+unfoldable pub childRefusal : List ℕ → ℕ → ℕ → ℕ
+childRefusal code which room =
+    codeRefusal code
+    then need (leb which 1) refusedStep
+    then need (ltb (depthOf code) (greatestDepth (dimensionOf code))) refusedDeepest
+    then need (leb (codeLength (dimensionOf code) (suc (depthOf code))) room) refusedShort
+
+abbrev pub Child : List ℕ → ℕ → List ℕ → Written → List ℕ → Type 0
+Child code which before r after = Writes (childRefusal code which (length before)) (childCode which code) before r after
+
+-- parent: the code's own; 9; 11
+unfoldable pub parentRefusal : List ℕ → ℕ → ℕ
+parentRefusal code room =
+    codeRefusal code
+    then need (ltb 0 (depthOf code)) refusedRoot
+    then need (leb (codeLength (dimensionOf code) (depthOf code - 1)) room) refusedShort
+
+-- the code of the path without its last step
+pub record ParentOf (code answer : List ℕ) : Type 0 where
+  pub root : List ℕ
+  pub path : List ℕ
+  pub last : ℕ
+  pub code-of : IsCodeOf code root (path ++ last ∷ [])
+  pub is : answer ≡ codeOf root path
+
+pub record Parent (code before : List ℕ) (r : Written) (after : List ℕ) : Type 0 where
+  pub answer : List ℕ
+  pub writes : Writes (parentRefusal code (length before)) answer before r after
+  pub parent : parentRefusal code (length before) ≡ done → ParentOf code answer

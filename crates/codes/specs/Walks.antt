@@ -1,0 +1,209 @@
+-- What the walks over a code's bytes find, and one law for each way out of them.
+use mathlib.Core.Path.{_≡_, refl, sym, ap, _∙_, subst}
+use mathlib.Core.Bool.{Bool, true, false, cond, not, _&&_}
+use mathlib.Core.List.{List, [], _∷_, _++_}
+use Prim.Native.Nat.{ℕ, zero, suc, _+_, _-_, _*_, _/_, _%_, _^_, _≤_, _<_}
+use native.Mathlib.Omega.{arith}
+use native.Mathlib.Numerals.{add-one}
+use native.Mathlib.Decide.{ℕ-discrete, decLt}
+use lib.Dec.{T, eqb, leb, ltb}
+use lib.Bits.{bitOr, bitAnd, or-lt, or-add-and, and-le-l, and-le-r}
+use lib.ListN.{length, getD, take, drop, length-drop, drop-of-length-le}
+use lib.Pow.{pow-pos}
+use lib.Seq.{getD-drop, getD-take, drop-cons}
+use borrow.Author.Tests.{lt-ltb, le-ltb, lt-leb, le-leb, eq-eqb, ne-eqb, ltb-true}
+use Rattle.dimension.specs.Sizes.{splitPlace}
+use Rattle.bisection.specs.Codes.{axis, minus, high}
+use Rattle.bisection.specs.Refusals.{each, fresh, permutes, orthantsFit, ownMinus, sameSign, signsOwn}
+use Rattle.bisection.specs.Theorems.Checked.{each-at, at-each, and-both, both}
+use Rattle.bisection.specs.Theorems.Passing.{same-true, same-is}
+use Rattle.codes.specs.Masks.{raised, raised-high, high-none}
+
+-- tests in a row: equal tests, one more, one that fails
+pub each-same : (n : ℕ) (f g : ℕ → Bool) → ((i : ℕ) → i < n → f i ≡ g i) → each n f ≡ each n g
+unfolding each
+each-same zero f g e = refl
+each-same (suc n) f g e = rw (e n (omega arith), each-same n f g (λ i l. e i (omega arith))) refl
+
+pub each-more : (n : ℕ) (f : ℕ → Bool) → each n f ≡ true → f n ≡ true → each (n + 1) f ≡ true
+unfolding each
+each-more n f e h = rw (add-one n) (and-both (f n) (each n f) h e)
+
+pub each-fails : (n : ℕ) (f : ℕ → Bool) (i : ℕ) → i < n → f i ≡ false → each n f ≡ false
+each-fails n f i l e = go (each n f) refl
+  where
+    go : (t : Bool) → each n f ≡ t → t ≡ false
+    go false q = refl
+    go true q = absurd (subst T (sym (each-at n f q i l) ∙ e) tt)
+
+-- the permutation: what has been seen before place i
+abbrev pub entryFits : ℕ → List ℕ → ℕ → Bool
+entryFits d es i = leb 1 (axis (getD es i 0)) && leb (axis (getD es i 0)) d && fresh es (axis (getD es i 0)) i
+
+pub record Seen (d : ℕ) (es : List ℕ) (i seen : ℕ) : Type 0 where
+  pub passed : each i (entryFits d es) ≡ true
+  pub marks : (a : ℕ) → 1 ≤ a → high seen a ≡ not (fresh es a i)
+
+pub seen-none : (d : ℕ) (es : List ℕ) → Seen d es 0 0
+unfolding each fresh
+seen-none d es = record { passed = refl; marks = λ a l. high-none a }
+
+fresh-more : (es : List ℕ) (a i : ℕ) → fresh es a (i + 1) ≡ (not (eqb (axis (getD es i 0)) a) && fresh es a i)
+unfolding fresh each
+fresh-more es a i = rw (add-one i) refl
+
+and-false : (s : Bool) → (s && false) ≡ false
+and-false true = refl
+and-false false = refl
+
+module _ {d : ℕ} {es : List ℕ} {i seen : ℕ} (s : Seen d es i seen) (a : ℕ) (is : a ≡ axis (getD es i 0)) where
+  pub seen-next : 1 ≤ a → a ≤ d → high seen a ≡ false → Seen d es (i + 1) (raised seen a)
+  seen-next l u h = record
+    { passed = each-more i (entryFits d es) (s .passed) (and-both (leb 1 (axis (getD es i 0)) && leb (axis (getD es i 0)) d) (fresh es (axis (getD es i 0)) i)
+        (and-both (leb 1 (axis (getD es i 0))) (leb (axis (getD es i 0)) d) (le-leb 1 (axis (getD es i 0)) (rw is at l)) (le-leb (axis (getD es i 0)) d (rw is at u)))
+        (subst (λ (b : ℕ). fresh es b i ≡ true) is (not-false (fresh es a i) (sym (s .marks a l) ∙ h))))
+    ; marks = λ b k. raised-high seen a b l k ∙ rw (fresh-more es b i, ← is) (go b k (ℕ-discrete b a)) }
+    where
+      not-false : (t : Bool) → not t ≡ false → t ≡ true
+      not-false true e = refl
+      not-false false e = absurd (subst T e tt)
+      go : (b : ℕ) → 1 ≤ b → Dec (b ≡ a) → cond (eqb b a) true (high seen b) ≡ not (not (eqb a b) && fresh es b i)
+      go b k (yes e) = rw (eq-eqb b a e, eq-eqb a b (sym e)) refl
+      go b k (no e) = rw (ne-eqb b a e, ne-eqb a b (λ q. e (sym q))) (s .marks b k)
+
+  fails-at : i < d → entryFits d es i ≡ false → false ≡ permutes d es
+  unfolding permutes
+  fails-at l e = sym (each-fails d (entryFits d es) i l e)
+
+  pub axis-none : i < d → a < 1 → false ≡ permutes d es
+  axis-none l h = fails-at l (rw (lt-leb 1 (axis (getD es i 0)) (rw is at h)) refl)
+
+  pub axis-over : i < d → d < a → false ≡ permutes d es
+  axis-over l h = fails-at l (rw (lt-leb (axis (getD es i 0)) d (rw is at h), and-false (leb 1 (axis (getD es i 0)))) refl)
+
+  pub axis-twice : i < d → 1 ≤ a → high seen a ≡ true → false ≡ permutes d es
+  axis-twice l k h = fails-at l (rw (subst (λ (b : ℕ). fresh es b i ≡ false) is (not-true (fresh es a i) (sym (s .marks a k) ∙ h))) (and-false (leb 1 (axis (getD es i 0)) && leb (axis (getD es i 0)) d)))
+    where
+      not-true : (t : Bool) → not t ≡ true → t ≡ false
+      not-true true e = absurd (subst T (sym e) tt)
+      not-true false e = refl
+
+pub seen-all : {d : ℕ} {es : List ℕ} {i seen : ℕ} → Seen d es i seen → i ≤ d → d ≤ i → true ≡ permutes d es
+unfolding permutes
+seen-all {d} {es} {i} s l u = sym (subst (λ (n : ℕ). each n (entryFits d es) ≡ true) (omega arith) (s .passed))
+
+-- only the first d entries count
+pub permutes-take : (d : ℕ) (l : List ℕ) → permutes d (take d l) ≡ permutes d l
+unfolding permutes fresh
+permutes-take d l = each-same d (entryFits d (take d l)) (entryFits d l) (λ i h. rw (getD-take d l i 0 h)
+    (ap (λ (t : Bool). leb 1 (axis (getD l i 0)) && leb (axis (getD l i 0)) d && t)
+      (each-same i (λ j. not (eqb (axis (getD (take d l) j 0)) (axis (getD l i 0)))) (λ j. not (eqb (axis (getD l j 0)) (axis (getD l i 0)))) (λ j k. rw (getD-take d l j 0 (omega arith)) refl))))
+
+-- bytes or-ed together
+unfoldable pub joined : ℕ → List ℕ → ℕ
+joined any [] = any
+joined any (o ∷ os) = joined (bitOr any o) os
+
+pub joined-next : (any : ℕ) (l : List ℕ) (i : ℕ) → i < length l → joined any (drop i l) ≡ joined (bitOr any (getD l i 0)) (drop (i + 1) l)
+unfolding joined
+joined-next any l i h = rw (add-one i, drop-cons l i 0 h) refl
+
+pub joined-end : (any : ℕ) (l : List ℕ) (i : ℕ) → length l ≤ i → joined any (drop i l) ≡ any
+unfolding joined
+joined-end any l i h = rw (drop-of-length-le l h) refl
+
+pub joined-fits : (d any : ℕ) (os : List ℕ) → any < 2 ^ d → ((i : ℕ) → i < length os → getD os i 0 < 2 ^ d) → joined any os < 2 ^ d
+unfolding joined
+joined-fits d any [] h f = h
+joined-fits d any (o ∷ os) h f = joined-fits d (bitOr any o) os (or-lt d any o h (f 0 (omega arith))) (λ i l. f (suc i) (omega arith))
+
+or-over-l : (a b : ℕ) → a ≤ bitOr a b
+or-over-l a b = omega (arith, or-add-and a b, and-le-r a b)
+
+or-over-r : (a b : ℕ) → b ≤ bitOr a b
+or-over-r a b = omega (arith, or-add-and a b, and-le-l a b)
+
+joined-over : (any : ℕ) (os : List ℕ) → any ≤ joined any os
+unfolding joined
+joined-over any [] = omega arith
+joined-over any (o ∷ os) = omega (arith, joined-over (bitOr any o) os, or-over-l any o)
+
+joined-each : (any : ℕ) (os : List ℕ) (i : ℕ) → i < length os → getD os i 0 ≤ joined any os
+unfolding joined
+joined-each any [] i l = absurd (omega arith)
+joined-each any (o ∷ os) zero l = omega (arith, joined-over (bitOr any o) os, or-over-r any o)
+joined-each any (o ∷ os) (suc i) l = joined-each (bitOr any o) os i (omega arith)
+
+pub fit-joined : (d : ℕ) (os : List ℕ) → ltb (joined 0 os) (2 ^ d) ≡ orthantsFit d os
+unfolding orthantsFit
+fit-joined d os = go (decLt (joined 0 os) (2 ^ d))
+  where
+    pos : 0 < 2 ^ d
+    pos = pow-pos d
+    test : ℕ → Bool
+    test i = ltb (getD os i 0) (2 ^ d)
+    go : Dec (joined 0 os < 2 ^ d) → ltb (joined 0 os) (2 ^ d) ≡ each (length os) test
+    go (yes h) = rw (lt-ltb (joined 0 os) (2 ^ d) h) (sym (at-each (length os) test (λ i l. lt-ltb (getD os i 0) (2 ^ d) (omega (arith, joined-each 0 os i l)))))
+    go (no h) = rw (le-ltb (joined 0 os) (2 ^ d) (omega arith)) (sym (none (each (length os) test) refl))
+      where
+        none : (t : Bool) → each (length os) test ≡ t → t ≡ false
+        none false q = refl
+        none true q = absurd (h (joined-fits d 0 os pos (λ i l. ltb-true (getD os i 0) (2 ^ d) (each-at (length os) test q i l))))
+
+-- the byte of the box's own signs
+abbrev pub ownByte : List ℕ → ℕ
+ownByte os = getD os (length os - 1) 0
+
+abbrev pub signTest : List ℕ → ℕ → ℕ → Bool
+signTest es own i = sameSign (minus (getD es i 0)) (high own (axis (getD es i 0)))
+
+unfoldable pub signsBy : ℕ → List ℕ → ℕ → Bool
+signsBy k es own = each k (signTest es own)
+
+pub signs-by : (d k : ℕ) (l os : List ℕ) → k ≤ d → signsBy k l (ownByte os) ≡ signsOwn k (take d l) os
+unfolding signsBy signsOwn ownMinus
+signs-by d k l os h = each-same k (signTest l (ownByte os)) (λ i. sameSign (minus (getD (take d l) i 0)) (high (ownByte os) (axis (getD (take d l) i 0)))) (λ i q. rw (getD-take d l i 0 (omega arith)) refl)
+
+-- the first k entries have axes that a byte has bits for
+pub record AxesWithin (k : ℕ) (code : List ℕ) : Type 0 where
+  pub low : (i : ℕ) → i < k → 1 ≤ axis (getD code (2 + i) 0)
+  pub high : (i : ℕ) → i < k → axis (getD code (2 + i) 0) ≤ 8
+
+pub record SignsSoFar (es : List ℕ) (own i : ℕ) : Type 0 where
+  pub so-far : each i (signTest es own) ≡ true
+
+pub signs-none : (es : List ℕ) (own : ℕ) → SignsSoFar es own 0
+unfolding each
+signs-none es own = record { so-far = refl }
+
+pub at-place : (l : List ℕ) (at i : ℕ) → getD l (at + i) 0 ≡ getD (drop at l) i 0
+at-place l at i = sym (getD-drop at l i 0)
+
+-- the own byte: no orthants, or the last byte of the code
+pub own-none : (l : List ℕ) (n : ℕ) → length l ≡ n → 0 ≡ ownByte (drop n l)
+own-none l n e = let h : length l ≤ n = omega arith in ap (λ (os : List ℕ). ownByte os) (sym (drop-of-length-le l h))
+
+pub own-last : (l : List ℕ) (n : ℕ) → n ≤ length l → (length l ≡ n → ⊥) → getD l (length l - 1) 0 ≡ ownByte (drop n l)
+own-last l n h e = sym (rw (length-drop n l) (getD-drop n l (length l - n - 1) 0 ∙ ap (λ (i : ℕ). getD l i 0) last))
+  where
+    last : n + (length l - n - 1) ≡ length l - 1
+    last = omega arith
+
+module _ {es : List ℕ} {own i : ℕ} (s : SignsSoFar es own i) where
+  pub signs-next : signTest es own i ≡ true → SignsSoFar es own (i + 1)
+  signs-next e = record { so-far = each-more i (signTest es own) (s .so-far) e }
+
+  pub signs-fail : {k : ℕ} → i < k → signTest es own i ≡ false → false ≡ signsBy k es own
+  unfolding signsBy
+  signs-fail {k} l h = sym (each-fails k (signTest es own) i l h)
+
+  pub signs-all : {k : ℕ} → i ≤ k → k ≤ i → true ≡ signsBy k es own
+  unfolding signsBy
+  signs-all {k} l u = sym (subst (λ (n : ℕ). each n (signTest es own) ≡ true) (omega arith) (s .so-far))
+
+-- one sign test, as the code branches
+pub same-minus : (m h : Bool) → m ≡ true → h ≡ sameSign m h
+same-minus m h e = rw e refl
+
+pub same-plus : (m h : Bool) → m ≡ false → not h ≡ sameSign m h
+same-plus m h e = rw e refl

@@ -1,0 +1,87 @@
+// The tests of a code's body: its permutation, its orthant bytes, its signs. Each is a walk over lent bytes.
+ghost use mathlib.Core.Path.{_≡_};
+ghost use Prim.Native.Nat.{_+_, _-_, _≤_, _<_};
+ghost use lib.ListN.{length, getD, drop};
+ghost use Rattle.bisection.specs.Codes.{axis, minus, high};
+ghost use Rattle.bisection.specs.Refusals.{permutes, sameSign};
+ghost use Rattle.codes.specs.Walks.{joined, ownByte, signsBy, AxesWithin};
+
+
+use crate::entries;
+
+// The d bytes from `at` on have the axes 1..d, none repeated.
+pub fn permuted(s: &[u8], at: usize, d: usize) -> bool
+    requires { ⌜ (d ≤ 8) × (at + d ≤ length (now s)) ⌝ }
+    ensures { λ r. ⌜ r ≡ permutes d (drop at (now (s .entry))) ⌝ }
+{
+    let mut seen: u8 = 0;
+    let mut i: usize = 0;
+    while i < d {
+        let a = entries::axis_of(s[at + i]);
+        if a < 1 {
+            return false;
+        }
+        if d < entries::size(a) {
+            return false;
+        }
+        if entries::is_high(seen, a) {
+            return false;
+        }
+        seen = entries::raise(seen, a);
+        i += 1;
+    }
+    true
+}
+
+// The bytes from `at` on, or-ed: a bit is set that is set in any of them.
+pub fn any_bit(s: &[u8], at: usize) -> u8
+    requires { ⌜ at ≤ length (now s) ⌝ }
+    ensures { λ r. ⌜ r ≡ joined 0 (drop at (now (s .entry))) ⌝ }
+{
+    let mut any: u8 = 0;
+    let mut i: usize = at;
+    while i < s.len() {
+        any = any | s[i];
+        i += 1;
+    }
+    any
+}
+
+// The last orthant byte of a code of dimension d, 0 where it has none: high where the box's own sign is minus.
+pub fn own_byte(code: &[u8], d: usize) -> u8
+    requires { ⌜ (d ≤ 8) × (2 + d ≤ length (now code)) ⌝ }
+    ensures { λ r. ⌜ r ≡ ownByte (drop (2 + d) (now (code .entry))) ⌝ }
+{
+    let n = code.len();
+    if n == 2 + d {
+        return 0;
+    }
+    code[n - 1]
+}
+
+// The entry carries the own sign that the orthant byte gives its axis.
+pub fn same_sign(e: u8, own: u8) -> bool
+    requires { ⌜ (1 ≤ axis e) × (axis e ≤ 8) ⌝ }
+    ensures { λ r. ⌜ r ≡ sameSign (minus e) (high own (axis e)) ⌝ }
+{
+    let high = entries::is_high(own, entries::axis_of(e));
+    if entries::is_minus(e) {
+        return high;
+    }
+    !high
+}
+
+// The first k entries carry the own sign that the orthant byte gives: the sign test, entry by entry.
+pub fn signs_by(code: &[u8], k: usize, own: u8) -> bool
+    requires { ⌜ (2 + k ≤ length (now code)) × AxesWithin k (now code) ⌝ }
+    ensures { λ r. ⌜ r ≡ signsBy k (drop 2 (now (code .entry))) own ⌝ }
+{
+    let mut i: usize = 0;
+    while i < k {
+        if !same_sign(code[2 + i], own) {
+            return false;
+        }
+        i += 1;
+    }
+    true
+}
