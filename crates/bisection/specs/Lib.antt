@@ -7,7 +7,7 @@ pub mod Roots
 pub mod Codes
 -- The refusal numbers, and the order of refusals for a code.
 pub mod Refusals
--- Facets, faces of the cube, and cells that have all of a facet's vertices.
+-- Facets, faces of the cube, cells that have all of a facet's vertices, and the cell across a facet.
 pub mod Facets
 -- The definitions computed on small cases: the document's quoted orthants, and how many codes pass.
 pub mod Computed

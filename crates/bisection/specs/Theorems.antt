@@ -23,3 +23,13 @@ pub mod Drawn
 pub mod Geometry
 -- Two cells are equal only if their codes are.
 pub mod OneCode
+-- A code that passes has one cell, and a cell has one code.
+pub mod CodeCells
+-- The rule table of a crossing, on names.
+pub mod Table
+-- The cell across a facet: one axis at a time, in units of half a side.
+pub mod Crossing
+-- The crossing theorem: the cell across a facet is the one of the table, and there is no other.
+pub mod Neighbour
+-- P6, P7 and P8 of document 01.
+pub mod Worked

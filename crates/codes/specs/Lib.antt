@@ -6,3 +6,13 @@ pub mod Signs
 pub mod Masks
 pub mod Walks
 pub mod Heads
+pub mod Buffers
+pub mod Steps
+pub mod Relatives
+pub mod Parents
+pub mod Descents
+pub mod Climbs
+pub mod PathAnswers
+pub mod Lines
+pub mod Points
+pub mod Drawing

@@ -17,6 +17,7 @@ use Rattle.bisection.specs.Codes.{axis, minus, high}
 use Rattle.bisection.specs.Refusals.{each, fresh, permutes, orthantsFit, ownMinus, sameSign, signsOwn}
 use Rattle.bisection.specs.Theorems.Checked.{each-at, at-each, and-both, both}
 use Rattle.bisection.specs.Theorems.Passing.{same-true, same-is}
+use Rattle.codes.specs.Outcomes.{isRoot, isPath}
 use Rattle.codes.specs.Masks.{raised, raised-high, high-none}
 
 -- tests in a row: equal tests, one more, one that fails
@@ -207,3 +208,47 @@ same-minus m h e = rw e refl
 
 pub same-plus : (m h : Bool) → m ≡ false → not h ≡ sameSign m h
 same-plus m h e = rw e refl
+
+-- a root's bytes, under way: none before i has a sign
+pub record PlainSoFar (root : List ℕ) (i : ℕ) : Type 0 where
+  pub so-far : each i (λ j. not (minus (getD root j 0))) ≡ true
+
+pub plain-none : (root : List ℕ) → PlainSoFar root 0
+unfolding each
+plain-none root = record { so-far = refl }
+
+pub root-permutes : (root : List ℕ) → permutes (length root) (drop 0 root) ≡ false → false ≡ isRoot root
+unfolding isRoot
+root-permutes root e = sym (rw e refl)
+
+module _ {root : List ℕ} {i : ℕ} (s : PlainSoFar root i) where
+  pub plain-next : minus (getD root i 0) ≡ false → PlainSoFar root (i + 1)
+  plain-next e = record { so-far = each-more i (λ j. not (minus (getD root j 0))) (s .so-far) (ap not e) }
+
+  pub plain-fail : i < length root → minus (getD root i 0) ≡ true → false ≡ isRoot root
+  unfolding isRoot
+  plain-fail l e = sym (rw (each-fails (length root) (λ j. not (minus (getD root j 0))) i l (ap not e)) (and-false (permutes (length root) root)))
+
+  pub plain-all : permutes (length root) (drop 0 root) ≡ true → i ≤ length root → length root ≤ i → true ≡ isRoot root
+  unfolding isRoot
+  plain-all p l u = sym (and-both (permutes (length root) root) (each (length root) (λ j. not (minus (getD root j 0)))) p (subst (λ (n : ℕ). each n (λ j. not (minus (getD root j 0))) ≡ true) (omega arith) (s .so-far)))
+
+-- a path's bytes, under way: each before i is 0 or 1
+pub record StepsSoFar (path : List ℕ) (i : ℕ) : Type 0 where
+  pub so-far : each i (λ j. leb (getD path j 0) 1) ≡ true
+
+pub steps-none : (path : List ℕ) → StepsSoFar path 0
+unfolding each
+steps-none path = record { so-far = refl }
+
+module _ {path : List ℕ} {i : ℕ} (s : StepsSoFar path i) where
+  pub steps-next : getD path i 0 ≤ 1 → StepsSoFar path (i + 1)
+  steps-next e = record { so-far = each-more i (λ j. leb (getD path j 0) 1) (s .so-far) (le-leb (getD path i 0) 1 e) }
+
+  pub steps-fail : i < length path → 1 < getD path i 0 → false ≡ isPath path
+  unfolding isPath
+  steps-fail l e = sym (each-fails (length path) (λ j. leb (getD path j 0) 1) i l (lt-leb (getD path i 0) 1 e))
+
+  pub steps-all : i ≤ length path → length path ≤ i → true ≡ isPath path
+  unfolding isPath
+  steps-all l u = sym (subst (λ (n : ℕ). each n (λ j. leb (getD path j 0) 1) ≡ true) (omega arith) (s .so-far))

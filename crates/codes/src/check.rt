@@ -4,6 +4,7 @@ ghost use Prim.Native.Nat.{_+_, _-_, _≤_, _<_};
 ghost use lib.ListN.{length, getD, drop};
 ghost use Rattle.bisection.specs.Codes.{axis, minus, high};
 ghost use Rattle.bisection.specs.Refusals.{permutes, sameSign};
+ghost use Rattle.codes.specs.Outcomes.{isRoot, isPath};
 ghost use Rattle.codes.specs.Walks.{joined, ownByte, signsBy, AxesWithin};
 
 
@@ -79,6 +80,38 @@ pub fn signs_by(code: &[u8], k: usize, own: u8) -> bool
     let mut i: usize = 0;
     while i < k {
         if !same_sign(code[2 + i], own) {
+            return false;
+        }
+        i += 1;
+    }
+    true
+}
+
+// The bytes are those of a root: a permutation of the axes, and no byte with a sign.
+pub fn is_root(root: &[u8]) -> bool
+    requires { ⌜ length (now root) ≤ 8 ⌝ }
+    ensures { λ r. ⌜ r ≡ isRoot (now (root .entry)) ⌝ }
+{
+    if !permuted(root, 0, root.len()) {
+        return false;
+    }
+    let mut i: usize = 0;
+    while i < root.len() {
+        if entries::is_minus(root[i]) {
+            return false;
+        }
+        i += 1;
+    }
+    true
+}
+
+// The bytes are those of a path: each is 0 or 1.
+pub fn is_path(path: &[u8]) -> bool
+    ensures { λ r. ⌜ r ≡ isPath (now (path .entry)) ⌝ }
+{
+    let mut i: usize = 0;
+    while i < path.len() {
+        if 1 < path[i] {
             return false;
         }
         i += 1;

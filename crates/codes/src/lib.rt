@@ -3,6 +3,10 @@
 // nothing is written before the last refusal is past. No entry has a requires.
 mod entries; // entries.rt: signed entries and orthant bytes
 mod check; // check.rt: the walks that test a body
+mod buffers; // buffers.rt: entries in a lent buffer
+mod steps; // steps.rt: one step on, one step back
+mod corners; // corners.rt: the vertices of a cell
+mod walks; // walks.rt: a whole path down, a whole path up
 
 ghost use mathlib.Core.Path.{_≡_};
 ghost use mathlib.Core.Bool.{Bool, true, false, not, cond};
@@ -15,12 +19,16 @@ ghost use Rattle.codes.specs.Heads.{BodyReady};
 ghost use Rattle.codes.specs.Outcomes.{HeadIs, PathToCode, CodeToPath, Vertices, Child, Parent};
 
 use bisection::DONE;
+use bisection::REFUSED_DEEPEST;
 use bisection::REFUSED_DEPTH;
 use bisection::REFUSED_DIMENSION;
 use bisection::REFUSED_LENGTH;
 use bisection::REFUSED_ORTHANT;
 use bisection::REFUSED_PERMUTATION;
+use bisection::REFUSED_ROOT;
+use bisection::REFUSED_SHORT;
 use bisection::REFUSED_SIGN;
+use bisection::REFUSED_STEP;
 use dimension::Dim;
 use dimension::Known;
 
@@ -49,7 +57,7 @@ pub struct PathWritten {
 pub fn code_head(dimension: u8, depth: u8) -> Head
     ensures { λ r. ⌜ HeadIs dimension depth r ⌝ }
 {
-    match Dim::of(dimension) {
+    match Dim::of(entries::size(dimension)) {
         Known::Nothing => Head {
             refusal: REFUSED_DIMENSION,
             length: 0,
@@ -106,4 +114,160 @@ pub fn code_check(code: &[u8]) -> u8
         return REFUSED_LENGTH;
     }
     code_body(code)
+}
+
+// A refusal: its number, and nothing written.
+fn refused(refusal: u8) -> Written
+    ensures { λ r. ⌜ (r .refusal ≡ refusal) × (r .length ≡ 0) ⌝ }
+{
+    Written { refusal, length: 0 }
+}
+
+// The code of a root and a path.
+pub fn path_to_code(root: &[u8], path: &[u8], code: &mut [u8]) -> Written
+    ensures { λ r. ⌜ PathToCode (now (root .entry)) (now (path .entry)) (now (code .entry)) r (now (code .exit)) ⌝ }
+{
+    match Dim::of(root.len()) {
+        Known::Nothing => refused(REFUSED_DIMENSION),
+        Known::Dimension(dim) => path_in(dim, root, path, code),
+    }
+}
+
+// The same, where the root has as many bytes as the dimension has axes.
+fn path_in(dim: Dim, root: &[u8], path: &[u8], code: &mut [u8]) -> Written
+    requires { ⌜ axesOf dim ≡ length (now root) ⌝ }
+    ensures { λ r. ⌜ PathToCode (now (root .entry)) (now (path .entry)) (now (code .entry)) r (now (code .exit)) ⌝ }
+{
+    if dim.greatest_depth() < path.len() {
+        return refused(REFUSED_DEPTH);
+    }
+    if !check::is_root(root) {
+        return refused(REFUSED_PERMUTATION);
+    }
+    if !check::is_path(path) {
+        return refused(REFUSED_STEP);
+    }
+    let length = dim.code_length(path.len());
+    if code.len() < length {
+        return refused(REFUSED_SHORT);
+    }
+    walks::write_code(dim, root, path, code);
+    Written {
+        refusal: DONE,
+        length,
+    }
+}
+
+// A refusal of two buffers.
+fn path_refused(refusal: u8) -> PathWritten
+    ensures { λ r. ⌜ (r .refusal ≡ refusal) × (r .axes ≡ 0) × (r .depth ≡ 0) ⌝ }
+{
+    PathWritten {
+        refusal,
+        axes: 0,
+        depth: 0,
+    }
+}
+
+// The root and the path whose code it is.
+pub fn code_to_path(code: &[u8], root: &mut [u8], path: &mut [u8]) -> PathWritten
+    ensures { λ r. ⌜ CodeToPath (now (code .entry)) (now (root .entry)) (now (path .entry)) r (now (root .exit)) (now (path .exit)) ⌝ }
+{
+    let refusal = code_check(code);
+    if refusal != DONE {
+        return path_refused(refusal);
+    }
+    let dim = Dim::checked(code[0]);
+    let axes = dim.axes();
+    let depth = entries::size(code[1]);
+    if root.len() < axes {
+        return path_refused(REFUSED_SHORT);
+    }
+    if path.len() < depth {
+        return path_refused(REFUSED_SHORT);
+    }
+    buffers::copy(code, 2, axes, root, 0);
+    walks::walk_up(code, dim, depth, root, path);
+    PathWritten {
+        refusal: DONE,
+        axes,
+        depth,
+    }
+}
+
+// The vertices of a code's cell in vertex order, d coordinates each, two bytes a coordinate, the low byte first.
+pub fn vertices(code: &[u8], points: &mut [u8]) -> Written
+    ensures { λ r. ⌜ Vertices (now (code .entry)) (now (points .entry)) r (now (points .exit)) ⌝ }
+{
+    let refusal = code_check(code);
+    if refusal != DONE {
+        return Written {
+            refusal: refusal,
+            length: 0,
+        };
+    }
+    let d = Dim::checked(code[0]).axes();
+    let length = 2 * d * (d + 1);
+    if points.len() < length {
+        return Written {
+            refusal: REFUSED_SHORT,
+            length: 0,
+        };
+    }
+    corners::write_cell(code, points);
+    Written {
+        refusal: DONE,
+        length: length,
+    }
+}
+
+// The child of a code's cell, child 0 or 1.
+pub fn child(code: &[u8], which: u8, out: &mut [u8]) -> Written
+    ensures { λ r. ⌜ Child (now (code .entry)) which (now (out .entry)) r (now (out .exit)) ⌝ }
+{
+    let refusal = code_check(code);
+    if refusal != DONE {
+        return refused(refusal);
+    }
+    if 1 < which {
+        return refused(REFUSED_STEP);
+    }
+    let dim = Dim::checked(code[0]);
+    let depth = entries::size(code[1]);
+    if dim.greatest_depth() <= depth {
+        return refused(REFUSED_DEEPEST);
+    }
+    let length = dim.code_length(depth + 1);
+    if out.len() < length {
+        return refused(REFUSED_SHORT);
+    }
+    steps::write_child(code, dim, depth, which, out);
+    Written {
+        refusal: DONE,
+        length,
+    }
+}
+
+// The parent of a code's cell: the code of the path without its last step.
+pub fn parent(code: &[u8], out: &mut [u8]) -> Written
+    ensures { λ r. ⌜ Parent (now (code .entry)) (now (out .entry)) r (now (out .exit)) ⌝ }
+{
+    let refusal = code_check(code);
+    if refusal != DONE {
+        return refused(refusal);
+    }
+    let depth = entries::size(code[1]);
+    if depth == 0 {
+        return refused(REFUSED_ROOT);
+    }
+    let dim = Dim::checked(code[0]);
+    let length = dim.code_length(depth - 1);
+    if out.len() < length {
+        return refused(REFUSED_SHORT);
+    }
+    steps::write_parent(code, dim, depth - 1, out);
+    Written {
+        refusal: DONE,
+        length,
+    }
 }

@@ -1,4 +1,4 @@
--- Which bytes name a dimension.
+-- Which numbers of axes are a dimension.
 use mathlib.Core.Path.{_≡_}
 use mathlib.Core.Bool.{false}
 use Prim.Native.Nat.{ℕ}
@@ -6,7 +6,7 @@ use Rattle.dimension.specs.declared.Known.{Known}
 use Rattle.dimension.specs.declared.Known.the-variants.{Dimension, Nothing}
 use Rattle.dimension.specs.Sizes.{isDimension, axesOf}
 
--- the dimension whose number the byte is, or nothing where it is no dimension
+-- the dimension with so many axes, or nothing where there is none
 abbrev pub KnownIs : ℕ → Known → Type 0
-KnownIs byte (Dimension d) = axesOf d ≡ byte
-KnownIs byte Nothing = isDimension byte ≡ false
+KnownIs axes (Dimension d) = axesOf d ≡ axes
+KnownIs axes Nothing = isDimension axes ≡ false

@@ -4,7 +4,7 @@ use mathlib.Core.Bool.{Bool, true, false, _||_}
 use mathlib.Core.Logic.{_⊎_, inl, inr}
 use Prim.Native.Nat.{ℕ, zero, suc, _+_, _*_, _/_, _%_, _-_, _^_, _≤_, _<_}
 use native.Mathlib.Omega.{arith}
-use native.Mathlib.Nat.{div-add-mod', mod-lt, div-div-eq-div-mul, div-lt-iff-lt-mul, mul-div-right, zero-div, zero-mod, eq-of-mul-eq-mul-left, mul-lt-mul-of-pos-right, mul-le-mul-left, le-div-iff-mul-le, div-mul-le-self, mul-assoc, lt-of-mul-lt-mul-right}
+use native.Mathlib.Nat.{div-add-mod', mod-lt, div-div-eq-div-mul, div-lt-iff-lt-mul, mul-div-right, zero-div, zero-mod, eq-of-mul-eq-mul-left, mul-lt-mul-of-pos-right, mul-le-mul-left, mul-le-mul, le-div-iff-mul-le, div-mul-le-self, mul-assoc, lt-of-mul-lt-mul-right}
 use native.Mathlib.Decide.{decLt, ℕ-discrete}
 use lib.Arith.{digits-div, digits-mod}
 use lib.Pow.{pow-add, pow-pos, pow-lt}
@@ -97,6 +97,10 @@ cube-two-bytes = lit< tt
 pub halvings-few : halvings ≤ 15
 unfolding halvings
 halvings-few = lit≤ tt
+
+pub depth-small : (d : ℕ) → Dimension d → greatestDepth d ≤ 60
+unfolding greatestDepth
+depth-small d n = omega (arith, mul-le-mul halvings-few (n .few))
 
 -- depth D by its box depth and its level
 module _ (d D : ℕ) (d0 : 0 < d) where

@@ -1,7 +1,7 @@
 -- The sizes that belong to a dimension.
 -- The sizes, as definitions over any dimension d.
 pub mod Sizes
--- Which bytes name a dimension.
+-- Which numbers of axes are a dimension.
 pub mod Known
 -- What callers use of the sizes: no proof above this crate looks into them.
 pub mod Laws

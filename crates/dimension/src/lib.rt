@@ -14,7 +14,7 @@ pub enum Dim {
     Four,
 }
 
-// What a dimension byte says.
+// What a number of axes says.
 pub enum Known {
     Dimension(Dim),
     Nothing,
@@ -26,11 +26,11 @@ impl Dim {
     // The cube is 0 to CUBE_SIDE on each axis: two to the power HALVINGS.
     pub const CUBE_SIDE: u16 = 4096;
 
-    // The dimension that a byte names, if it is built.
-    pub fn of(byte: u8) -> Known
-        ensures { λ r. ⌜ KnownIs byte r ⌝ }
+    // The dimension of so many axes, if it is built.
+    pub fn of(axes: usize) -> Known
+        ensures { λ r. ⌜ KnownIs axes r ⌝ }
     {
-        match byte {
+        match axes {
             2 => Known::Dimension(Dim::Two),
             3 => Known::Dimension(Dim::Three),
             4 => Known::Dimension(Dim::Four),

@@ -155,3 +155,11 @@ parent-code root path r b h = rw (child-code root path r b) go
         depths = unfold bytes depthOf in refl
         codes : bytes d D n ≡ codeOf root path
         codes = unfold codeOf in refl
+
+-- a code's root has as many bytes as its dimension, its path as many as its depth
+module _ {code root path : List ℕ} (c : IsCodeOf code root path) where
+  pub length-root : length root ≡ dimensionOf code
+  length-root = sym (ap dimensionOf (c .is) ∙ dimension-of-code root path)
+
+  pub length-path-of : length path ≡ depthOf code
+  length-path-of = sym (ap depthOf (c .is) ∙ depth-of-code root path)

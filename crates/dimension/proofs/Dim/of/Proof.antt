@@ -1,4 +1,4 @@
--- `Dim::of` meets its contract: a byte that is none of the three is no dimension.
+-- `Dim::of` meets its contract: a number that is none of the three is no dimension.
 use Rattle.dimension.specs.Laws.{no-dimension}
 use borrow.Author.Needs.{needs}
 use Rattle.dimension.proofs.Dim.of.Statement.{statement}
@@ -14,7 +14,7 @@ returns-3 : tie.Need-returns-3
 returns-3 c = search needs
 
 returns-4 : tie.Need-returns-4
-returns-4 c = let g = c .match .rest in no-dimension (c .before .args .byte) (g .0 .0 .1) (g .0 .1) (g .1)
+returns-4 c = let g = c .match .rest in no-dimension (c .before .args .axes) (g .0 .0 .1) (g .0 .1) (g .1)
 
 pub of-spec : {M : Type 1} → statement M
 of-spec = tie.close (tie.spec returns returns-2 returns-3 returns-4)

@@ -1,0 +1,42 @@
+-- `write_child` meets its contract: the step rule on a copy of the code.
+use mathlib.Core.Path.{_≡_, refl, sym, ap, _∙_, subst}
+use Prim.Native.Nat.{ℕ, suc, _+_, _-_, _≤_, _<_}
+use lib.ListN.{length, getD, take, drop, length-set}
+use native.Mathlib.Omega.{arith}
+use Rattle.codes.specs.Relatives.{child-fits, child-two, child-depth, child-byte, child-copied, child-ready, child-written}
+use borrow.Author.Needs.{needs}
+use Rattle.codes.proofs.steps.write_child.Statement.{statement}
+use Rattle.codes.proofs.steps.write_child.Tie as tie
+
+copy-requires : tie.Need-copy-requires
+copy-requires c κs = (omega arith, omega (arith, child-fits (c .before .before .before .pre)))
+
+shared-slice-read-out : tie.Need-shared-slice-read-out
+shared-slice-read-out c = omega (arith, child-two (c .before .before .before .before .before .before .before .pre))
+
+add-out : tie.Need-add-out
+add-out c = record { fits = child-byte (c .before .before .before .before .before .before .before .pre) }
+
+slice-write-out : tie.Need-slice-write-out
+slice-write-out c = omega (arith, ap length (c .before .before .before .copy .ensures), child-copied (c .before .before .before .before .before .before .before .pre), child-two (c .before .before .before .before .before .before .before .pre), child-fits (c .before .before .before .before .before .before .before .pre))
+
+step-in-requires : tie.Need-step-in-requires
+step-in-requires c κs = rw (c .before .before .before .before .copy .ensures) (child-ready (c .before .before .before .before .before .before .before .before .pre) _)
+
+same-length : tie.Need-same-length
+same-length c = c .before .before .step-in .ensures .size ∙ (simp length-set (ap length (c .before .before .before .before .before .before .before .copy .ensures) ∙ child-copied (c .before .before .before .before .before .before .before .before .before .before .before .pre)))
+
+returns : tie.Need-returns
+returns c = child-written (c .before .before .before .before .before .before .before .before .before .before .before .pre) (c .before .before .before .before .before .before .before .before .before .before .before .args .which) _ _ (child-depth (c .before .before .before .before .before .before .before .before .before .before .before .pre)) (rw (c .before .before .before .before .before .before .before .copy .ensures) at (c .before .before .step-in .ensures))
+
+pub write-child-spec : {M : Type 1} → statement M
+write-child-spec =
+    tie.close
+    (tie.spec
+    copy-requires
+    shared-slice-read-out
+    add-out
+    slice-write-out
+    step-in-requires
+    same-length
+    returns)

@@ -1,0 +1,228 @@
+-- The parent as the code writes it: the front of the code with the last step taken back, and the order of refusals.
+use mathlib.Core.Path.{_≡_, refl, sym, ap, _∙_, subst}
+use mathlib.Core.Bool.{Bool, true, false, cond}
+use mathlib.Core.List.{List, [], _∷_, _++_, append-assoc}
+use mathlib.Core.Logic.{_≢_}
+use Prim.Native.Nat.{ℕ, zero, suc, _+_, _-_, _≤_, _<_}
+use native.Mathlib.Omega.{arith}
+use lib.Dec.{leb, ltb}
+use lib.ListN.{length, getD, take, drop, set, length-append, length-take, length-drop, length-set, List·getD-append}
+use lib.Seq.{paste, getD-at, take-append-le, take-append-add, drop-append-le}
+use borrow.Author.Tests.{le-leb, lt-leb, lt-ltb, le-ltb}
+use Rattle.dimension.specs.Sizes.{isDimension, greatestDepth, codeLength, splitPlace, boxDepth}
+use Rattle.dimension.specs.Laws.{Dimension, split-range}
+use Rattle.bisection.specs.Codes.{axis, minus, negated, high, Name, bytes, dimensionOf, depthOf, entriesOf, orthantsOf, partsOf, codeOf, IsCodeOf}
+use Rattle.bisection.specs.Refusals.{done, refusedRoot, refusedShort, need, _then_, sameSign, ownMinus, codeRefusal}
+use Rattle.bisection.specs.Theorems.Entries.{unturned}
+use Rattle.bisection.specs.Theorems.Passing.{Passes, fewer, lastStep, unstepped, parentName, parent-passes}
+use Rattle.bisection.specs.Theorems.Paths.{path-suc, pathTo}
+use Rattle.bisection.specs.Theorems.CodePaths.{parentCode, parent-code, code-path, rootOf, pathOf}
+use Rattle.codes.specs.declared.Written.{Written}
+use Rattle.codes.specs.Outcomes.{Writes, parentRefusal, Parent, ParentOf}
+use Rattle.codes.specs.Heads.{fails, holds, last-fails, last-holds, first-stands, first-done}
+use Rattle.codes.specs.Buffers.{atPlace}
+use Rattle.codes.specs.Steps.{StepsBack}
+use Rattle.codes.specs.Walks.{ownByte}
+use Rattle.codes.specs.Relatives.{Checked, checked, ParentReady, copied-front, length-grows, refused-writes, done-writes}
+
+-- a turn back of the first entries goes no further
+pub unstepped-append : (b n : ℕ) (es rest : List ℕ) → n < length es → unstepped b n (es ++ rest) ≡ unstepped b n es ++ rest
+unfolding unstepped unturned
+unstepped-append zero n es rest h = refl
+unstepped-append (suc b) n es rest h = rw (List·getD-append es rest 0 n h, take-append-le n es rest (omega arith), drop-append-le (suc n) es rest h) (ap (λ (l : List ℕ). negated (getD es n 0) ∷ l) (sym (append-assoc (take n es) (drop (suc n) es) rest)))
+
+module _ {code out : List ℕ} {d D : ℕ} (r : ParentReady code d D out) where
+  k : Checked code
+  k = checked code (r .passes)
+
+  m : Name
+  m = partsOf code
+
+  es : List ℕ
+  es = m .entries
+
+  os : List ℕ
+  os = m .orthants
+
+  n : ℕ
+  n = splitPlace d D - 1
+
+  d0 : 0 < d
+  d0 = omega (arith, r .axes, k .range .two)
+
+  n-in : n < d
+  unfolding n
+  n-in = omega (arith, split-range d D d0)
+
+  pub parent-split : 1 ≤ splitPlace d D
+  parent-split = split-range d D d0 .0
+
+  passes : Passes d (suc D) m
+  unfolding m
+  passes = rw (r .axes, r .depth) (k .good .passes)
+
+  size : length code ≡ codeLength d (suc D)
+  size = rw (r .axes, r .depth) (k .size)
+
+  pub parent-front : codeLength d D ≤ length code
+  parent-front = omega (arith, size, length-grows d D d0)
+
+  pub parent-two : 2 ≤ length code
+  unfolding codeLength
+  parent-two = omega (arith, size)
+
+  pub parent-byte : getD code 1 0 - 1 ≡ D
+  unfolding depthOf
+  parent-byte = omega (arith, r .depth)
+
+  is : code ≡ d ∷ suc D ∷ (es ++ os)
+  unfolding m es os
+  is = whole ∙ ap (λ (x : ℕ). x ∷ depthOf code ∷ ((partsOf code) .entries ++ (partsOf code) .orthants)) (sym (r .axes)) ∙ ap (λ (y : ℕ). d ∷ y ∷ ((partsOf code) .entries ++ (partsOf code) .orthants)) (sym (r .depth))
+    where
+      whole : code ≡ dimensionOf code ∷ depthOf code ∷ ((partsOf code) .entries ++ (partsOf code) .orthants)
+      whole = unfold bytes in k .good .is
+
+  es-size : length es ≡ d
+  unfolding es
+  es-size = passes .signed .size
+
+  cut : take (codeLength d D) code ≡ d ∷ suc D ∷ (es ++ take (boxDepth d D) os)
+  unfolding codeLength
+  cut = ap (take (2 + d + boxDepth d D)) is ∙ ap (λ (j : ℕ). take j (d ∷ suc D ∷ (es ++ os))) there ∙ ap (λ (l : List ℕ). d ∷ suc D ∷ l) (take-append-add es os (boxDepth d D))
+    where
+      there : 2 + d + boxDepth d D ≡ suc (suc (length es + boxDepth d D))
+      there = omega (arith, es-size)
+
+  left : List ℕ
+  left = take (boxDepth d D) os ++ drop (codeLength d D) out
+
+  buffer : (j v : ℕ) → List ℕ
+  buffer j v = set (paste out 0 (drop 0 code) j) 1 v
+
+  buffer-is : (j v : ℕ) → j ≡ codeLength d D → buffer j v ≡ d ∷ v ∷ (es ++ left)
+  unfolding buffer left
+  buffer-is j v e = rw e (ap (λ (l : List ℕ). set l 1 v) (copied-front out code (codeLength d D) ∙ ap (λ (l : List ℕ). l ++ drop (codeLength d D) out) cut))
+      ∙ ap (λ (l : List ℕ). d ∷ v ∷ l) (append-assoc es (take (boxDepth d D) os) (drop (codeLength d D) out))
+
+  pub parent-size : (j : ℕ) → j ≡ codeLength d D → length (paste out 0 (drop 0 code) j) ≡ length out
+  parent-size j e = rw (e, copied-front out code (codeLength d D)) (length-append (take (codeLength d D) code) (drop (codeLength d D) out) ∙ simp (length-take, length-drop) (omega (arith, r .room, parent-front)))
+
+  -- entry n in the buffer
+  entry-is : (j v : ℕ) → j ≡ codeLength d D → (p : ℕ) → p ≡ n → getD (buffer j v) (2 + p) 0 ≡ getD es n 0
+  entry-is j v e p q = rw (buffer-is j v e, q) (ap (λ (i : ℕ). getD (d ∷ v ∷ (es ++ left)) i 0) two ∙ List·getD-append es left 0 n (omega (arith, es-size, n-in)))
+    where
+      two : 2 + n ≡ suc (suc n)
+      two = omega arith
+
+  pub parent-ready : (j v p : ℕ) → j ≡ codeLength d D → p ≡ splitPlace d D - 1
+      → (2 + p < length (set (paste out 0 (drop 0 code) j) 1 v)) × (1 ≤ axis (getD (set (paste out 0 (drop 0 code) j) 1 v) (2 + p) 0)) × (axis (getD (set (paste out 0 (drop 0 code) j) 1 v) (2 + p) 0) ≤ 8)
+  unfolding buffer n
+  parent-ready j v p e q = (room , rw (entry-is j v e p q) (low .0) , rw (entry-is j v e p q) (low .1))
+    where
+      room : 2 + p < length (set (paste out 0 (drop 0 code) j) 1 v)
+      room = unfold codeLength in simp length-set (omega (arith, parent-size j e, r .room, n-in, q))
+      low : (1 ≤ axis (getD es n 0)) × (axis (getD es n 0) ≤ 8)
+      low = unfold es in (passes .signed .low n n-in, omega (arith, passes .signed .high n n-in, r .axes, k .range .few))
+
+  own-is : (own : ℕ) → own ≡ ownByte (take (boxDepth d D) (drop (2 + d) code)) → own ≡ ownByte (take (boxDepth d D) os)
+  unfolding os m partsOf orthantsOf
+  own-is own e = e ∙ rw (r .axes) refl
+
+  written : (j v p own b : ℕ) (a : List ℕ) → j ≡ codeLength d D → v ≡ D → p ≡ n → own ≡ ownByte (take (boxDepth d D) os) → StepsBack 2 p own (buffer j v) b a
+      → a ≡ bytes d D (parentName d D m) ++ drop (codeLength d D) out
+  unfolding bytes parentName left
+  written j v p own b a e f q o s = s .entries ∙ unfold atPlace in (rw (buffer-is j v e, f, q) (ap (λ (l : List ℕ). d ∷ D ∷ l) (unstepped-append b n es left (omega (arith, es-size, n-in)))))
+      ∙ ap (λ (c : ℕ). d ∷ D ∷ (unstepped c n es ++ left)) step
+      ∙ ap (λ (l : List ℕ). d ∷ D ∷ l) (sym (append-assoc (unstepped (lastStep d D m) n es) (take (boxDepth d D) os) (drop (codeLength d D) out)))
+      ∙ again
+    where
+      step : b ≡ lastStep d D m
+      step = s .step ∙ unfold lastStep ownMinus fewer n es os in rw (entry-is j v e p q, o) refl
+      again : d ∷ D ∷ ((unstepped (lastStep d D m) n es ++ take (boxDepth d D) os) ++ drop (codeLength d D) out) ≡ d ∷ D ∷ (((parentName d D m) .entries ++ (parentName d D m) .orthants) ++ drop (codeLength d D) out)
+      again = unfold fewer n es os in refl
+
+  pub parent-written : (j v p own b : ℕ) (a : List ℕ) → j ≡ codeLength d D → v ≡ D → p ≡ splitPlace d D - 1 → own ≡ ownByte (take (boxDepth d D) (drop (2 + d) code))
+      → StepsBack 2 p own (set (paste out 0 (drop 0 code) j) 1 v) b a → a ≡ parentCode code ++ drop (codeLength d D) out
+  unfolding buffer n parentCode m
+  parent-written j v p own b a e f q o s = written j v p own b a e f q (own-is own o) s ∙ rw (← r .axes, ← less) refl
+    where
+      less : D ≡ depthOf code - 1
+      less = omega (arith, r .depth)
+
+-- the order of a parent's refusals
+module _ (code : List ℕ) (room : ℕ) where
+  abbrev pub parentRoom : ℕ
+  parentRoom = need (leb (codeLength (dimensionOf code) (depthOf code - 1)) room) refusedShort
+
+  pub parent-own : (x : ℕ) → x ≡ codeRefusal code → x ≢ 0 → parentRefusal code room ≡ x
+  unfolding parentRefusal
+  parent-own x e n = first-stands (codeRefusal code) (need (ltb 0 (depthOf code)) refusedRoot then parentRoom) (λ q. n (e ∙ q)) ∙ sym e
+
+  module _ (p : codeRefusal code ≡ 0) where
+    past-own : parentRefusal code room ≡ (need (ltb 0 (depthOf code)) refusedRoot then parentRoom)
+    unfolding parentRefusal
+    past-own = first-done (codeRefusal code) (need (ltb 0 (depthOf code)) refusedRoot then parentRoom) p
+
+    pub parent-9 : depthOf code ≡ 0 → parentRefusal code room ≡ 9
+    parent-9 e = past-own ∙ fails (ltb 0 (depthOf code)) 8 parentRoom (le-ltb 0 (depthOf code) (omega arith))
+
+    module _ (l : 0 < depthOf code) where
+      past-9 : parentRefusal code room ≡ parentRoom
+      past-9 = past-own ∙ holds (ltb 0 (depthOf code)) refusedRoot parentRoom (lt-ltb 0 (depthOf code) l)
+
+      pub parent-11 : room < codeLength (dimensionOf code) (depthOf code - 1) → parentRefusal code room ≡ 11
+      parent-11 h = past-9 ∙ last-fails (leb (codeLength (dimensionOf code) (depthOf code - 1)) room) refusedShort (lt-leb (codeLength (dimensionOf code) (depthOf code - 1)) room h)
+
+      pub parent-0 : codeLength (dimensionOf code) (depthOf code - 1) ≤ room → parentRefusal code room ≡ 0
+      parent-0 h = past-9 ∙ last-holds (leb (codeLength (dimensionOf code) (depthOf code - 1)) room) refusedShort (le-leb (codeLength (dimensionOf code) (depthOf code - 1)) room h)
+
+-- the parent's code is that of the path without its last step
+module _ (code : List ℕ) (e : codeRefusal code ≡ 0) (l : 0 < depthOf code) where
+  c : IsCodeOf code (rootOf code) (pathOf code)
+  c = code-path code e
+
+  D : ℕ
+  D = depthOf code - 1
+
+  more : suc D ≡ depthOf code
+  unfolding D
+  more = omega arith
+
+  up : List ℕ
+  up = pathTo (dimensionOf code) D (parentName (dimensionOf code) D (partsOf code))
+
+  last : ℕ
+  last = lastStep (dimensionOf code) D (partsOf code)
+
+  path-is : pathOf code ≡ up ++ last ∷ []
+  unfolding pathOf up last
+  path-is = ap (λ (j : ℕ). pathTo (dimensionOf code) j (partsOf code)) (sym more) ∙ path-suc (dimensionOf code) D (partsOf code)
+
+  child-of : IsCodeOf code (rootOf code) (up ++ last ∷ [])
+  child-of = subst (IsCodeOf code (rootOf code)) path-is c
+
+  last-step : last ≤ 1
+  last-step = subst (λ (b : ℕ). b ≤ 1) (getD-at up last [] 0 (length up) refl) (child-of .good-path .steps (length up) (simp length-append (omega arith)))
+
+  pub parent-of : ParentOf code (parentCode code)
+  parent-of = record { root = rootOf code; path = up; last = last; code-of = child-of; is = ap parentCode (child-of .is) ∙ parent-code (rootOf code) up (child-of .good-root) last last-step }
+
+  pub parent-length : codeLength (dimensionOf code) (depthOf code - 1) ≡ length (parentCode code)
+  unfolding parentCode bytes codeLength D
+  parent-length = sym (simp length-append (omega (arith, p .signed .size, p .boxes .count)))
+    where
+      k : Checked code
+      k = checked code e
+      p : Passes (dimensionOf code) D (parentName (dimensionOf code) D (partsOf code))
+      p = parent-passes (dimensionOf code) D (omega (arith, k .range .two)) (omega (arith, k .range .few)) (partsOf code) (subst (λ (j : ℕ). Passes (dimensionOf code) j (partsOf code)) (sym more) (k .good .passes))
+
+-- the answers, refused and written
+pub parent-refused : {code before : List ℕ} {r : Written} (number : ℕ) → parentRefusal code (length before) ≡ number → number ≢ 0 → r .refusal ≡ number → r .length ≡ 0 → Parent code before r before
+parent-refused number e n f g = record { answer = []; writes = refused-writes _ number e n f g; parent = λ q. absurd (n (sym e ∙ q)) }
+
+pub parent-done : {code before after : List ℕ} (n : ℕ) → codeRefusal code ≡ 0 → 0 < depthOf code → codeLength (dimensionOf code) (depthOf code - 1) ≤ length before → n ≡ codeLength (dimensionOf code) (depthOf code - 1)
+    → after ≡ parentCode code ++ drop n before → Parent code before (record { refusal = 0; length = n }) after
+parent-done {code} {before} n p l h e g = record { answer = parentCode code; writes = done-writes _ n (parent-0 code (length before) p l h) (e ∙ parent-length code p l) g; parent = λ q. parent-of code p l }
+
+pub length-before : (n d d' D D' : ℕ) → n ≡ codeLength d (D - 1) → d ≡ d' → D ≡ D' → n ≡ codeLength d' (D' - 1)
+length-before n d d' D D' e f g = e ∙ rw (f, g) refl

@@ -1,0 +1,265 @@
+-- Child and parent as the code writes them, and the order of their refusals.
+use mathlib.Core.Path.{_≡_, refl, sym, ap, _∙_, subst}
+use mathlib.Core.Bool.{Bool, true, false, cond}
+use mathlib.Core.List.{List, [], _∷_, _++_, append-assoc}
+use mathlib.Core.Logic.{_≢_, ⊎-elim}
+use Prim.Native.Nat.{ℕ, zero, suc, _+_, _-_, _≤_, _<_}
+use native.Mathlib.Omega.{arith}
+use native.Mathlib.Nat.{zero-add}
+use native.Mathlib.Numerals.{add-one}
+use lib.Dec.{eqb, leb, ltb}
+use lib.ListN.{length, getD, take, drop, set, length-append, length-take, length-drop, length-set, take-append-drop}
+use lib.Seq.{paste, getD-take, getD-drop, drop-append-add, take-at, drop-at, take-append-le, drop-append-le, take-all, drop-drop, take-set-le, drop-set-lt, take-take}
+use borrow.Author.Tests.{le-leb, lt-leb, lt-ltb, le-ltb}
+use Rattle.dimension.specs.Sizes.{isDimension, greatestDepth, codeLength, splitPlace, boxDepth}
+use Rattle.dimension.specs.Laws.{Dimension, dimension, split-range, depth-small, Within, Turned, deeper}
+use Rattle.bisection.specs.Codes.{axis, Name, step, bytes, dimensionOf, depthOf, entriesOf, orthantsOf, partsOf, childCode, codeOf, IsCodeOf}
+use Rattle.bisection.specs.Refusals.{done, refusedStep, refusedDeepest, refusedRoot, refusedShort, need, _then_, codeRefusal}
+use Rattle.bisection.specs.Theorems.Passing.{Passes, step-passes, fewer, lastStep, unstepped, parentName}
+use Rattle.bisection.specs.Theorems.Checked.{Good, good}
+use Rattle.bisection.specs.Theorems.CodePaths.{parentCode, code-path, rootOf, pathOf}
+use Rattle.codes.specs.declared.Written.{Written}
+use Rattle.codes.specs.Outcomes.{Writes, childRefusal, parentRefusal, Child, Parent, ParentOf}
+use Rattle.codes.specs.Heads.{fails, holds, last-fails, last-holds, first-stands, first-done}
+use Rattle.codes.specs.Steps.{nameIn, StepsTo, StepsBack}
+use Rattle.codes.specs.Walks.{ownByte}
+
+-- what a check that passes tells
+pub record Checked (code : List ℕ) : Type 0 where
+  pub good : Good code
+  pub size : length code ≡ codeLength (dimensionOf code) (depthOf code)
+  pub range : Dimension (dimensionOf code)
+
+pub checked : (code : List ℕ) → codeRefusal code ≡ done → Checked code
+unfolding codeLength
+checked code e = record { good = g; size = ap length (g .is) ∙ size; range = dimension (dimensionOf code) (g .dimension) }
+  where
+    g : Good code
+    g = good code e
+    size : length (bytes (dimensionOf code) (depthOf code) (partsOf code)) ≡ 2 + dimensionOf code + boxDepth (dimensionOf code) (depthOf code)
+    size = unfold bytes in simp length-append (omega (arith, g .passes .signed .size, g .passes .boxes .count))
+
+-- an answer that is refused, and one that is written
+pub refused-writes : {answer before : List ℕ} {r : Written} (refusal number : ℕ) → refusal ≡ number → number ≢ 0 → r .refusal ≡ number → r .length ≡ 0 → Writes refusal answer before r before
+refused-writes refusal number e n f g = record { number = f ∙ sym e; refused = λ q. (g, refl); written = λ q. absurd (n (sym e ∙ q)) }
+
+pub done-writes : {answer before after : List ℕ} (refusal n : ℕ) → refusal ≡ 0 → n ≡ length answer → after ≡ answer ++ drop n before → Writes refusal answer before (record { refusal = 0; length = n }) after
+done-writes {answer} {before} refusal n e f g = record { number = sym e; refused = λ q. absurd (q e); written = λ q. (f, g ∙ ap (λ (m : ℕ). answer ++ drop m before) f) }
+
+-- what the child is written from
+pub record ChildReady (code : List ℕ) (d D : ℕ) (out : List ℕ) : Type 0 where
+  pub passes : codeRefusal code ≡ done
+  pub axes : d ≡ dimensionOf code
+  pub depth : D ≡ depthOf code
+  pub room : codeLength d (suc D) ≤ length out
+
+pub record ParentReady (code : List ℕ) (d D : ℕ) (out : List ℕ) : Type 0 where
+  pub passes : codeRefusal code ≡ done
+  pub axes : d ≡ dimensionOf code
+  pub depth : suc D ≡ depthOf code
+  pub room : codeLength d D ≤ length out
+
+-- bytes in a buffer: a name behind two bytes, read again
+module _ (d D x v : ℕ) (m : Name) (rest : List ℕ) (es : length (m .entries) ≡ d) (os : length (m .orthants) ≡ boxDepth d D) where
+  two : 2 + d ≡ suc (suc d)
+  two = omega arith
+
+  pub name-held : nameIn d D (x ∷ v ∷ ((m .entries ++ m .orthants) ++ rest)) ≡ m
+  unfolding nameIn
+  name-held = λ i. record { entries = entries i; orthants = orthants i }
+    where
+      entries : take d ((m .entries ++ m .orthants) ++ rest) ≡ m .entries
+      entries = rw (append-assoc (m .entries) (m .orthants) rest) (take-at (m .entries) (m .orthants ++ rest) d es)
+      orthants : take (boxDepth d D) (drop (2 + d) (x ∷ v ∷ ((m .entries ++ m .orthants) ++ rest))) ≡ m .orthants
+      orthants = rw (two, append-assoc (m .entries) (m .orthants) rest, drop-at (m .entries) (m .orthants ++ rest) d es) (take-at (m .orthants) rest (boxDepth d D) os)
+
+-- a buffer is its first two bytes, the name in it and what is past the code
+pub framed : (d E : ℕ) (r : List ℕ) (n : Name) (x y : ℕ) → nameIn d E r ≡ n → take 2 r ≡ x ∷ y ∷ [] → r ≡ (x ∷ y ∷ (n .entries ++ n .orthants)) ++ drop (codeLength d E) r
+unfolding nameIn codeLength
+framed d E r n x y e f = sym (take-append-drop 2 r) ∙ rw f (ap (λ (l : List ℕ). x ∷ y ∷ l) body)
+  where
+    L : ℕ
+    L = boxDepth d E
+    tail : drop (2 + d) r ≡ take L (drop (2 + d) r) ++ drop (2 + d + L) r
+    tail = sym (take-append-drop L (drop (2 + d) r)) ∙ ap (λ (l : List ℕ). take L (drop (2 + d) r) ++ l) (drop-drop L (2 + d) r)
+    body : drop 2 r ≡ (n .entries ++ n .orthants) ++ drop (2 + d + L) r
+    body = sym (take-append-drop d (drop 2 r)) ∙ ap (λ (l : List ℕ). take d (drop 2 r) ++ l) (drop-drop d 2 r ∙ tail)
+        ∙ sym (append-assoc (take d (drop 2 r)) (take L (drop (2 + d) r)) (drop (2 + d + L) r))
+        ∙ ap (λ (q : Name). (q .entries ++ q .orthants) ++ drop (2 + d + L) r) e
+
+-- a copy to the front
+pub copied-front : (out s : List ℕ) (n : ℕ) → paste out 0 (drop 0 s) n ≡ take n s ++ drop n out
+copied-front out s n = rw (zero-add n) refl
+
+drop-more : (xs ys : List ℕ) (m : ℕ) → length xs ≤ m → drop m (xs ++ drop (length xs) ys) ≡ drop m ys
+drop-more xs ys m h = ap (λ (k : ℕ). drop k (xs ++ drop (length xs) ys)) (sym parts) ∙ drop-append-add xs (drop (length xs) ys) (m - length xs) ∙ drop-drop (m - length xs) (length xs) ys ∙ ap (λ (k : ℕ). drop k ys) parts
+  where
+    parts : length xs + (m - length xs) ≡ m
+    parts = omega arith
+
+pub box-grows : (d D : ℕ) → 0 < d → boxDepth d D ≤ boxDepth d (suc D)
+box-grows d D d0 = ⊎-elim (λ (w : Within d D). omega (arith, w .box)) (λ (w : Turned d D). omega (arith, w .box)) (deeper d D d0)
+
+pub length-grows : (d D : ℕ) → 0 < d → codeLength d D ≤ codeLength d (suc D)
+unfolding codeLength
+length-grows d D d0 = omega (arith, box-grows d D d0)
+
+-- the child, written over a copy of the code
+module _ {code out : List ℕ} {d D : ℕ} (r : ChildReady code d D out) where
+  k : Checked code
+  k = checked code (r .passes)
+
+  m : Name
+  m = partsOf code
+
+  d0 : 0 < d
+  d0 = omega (arith, r .axes, k .range .two)
+
+  pub child-small : d < 128
+  child-small = omega (arith, r .axes, k .range .few)
+
+  pub child-some : 0 < d
+  child-some = d0
+
+  passes : Passes d D m
+  unfolding m
+  passes = rw (r .axes, r .depth) (k .good .passes)
+
+  size : length code ≡ codeLength d D
+  size = rw (r .axes, r .depth) (k .size)
+
+  pub child-fits : length code ≤ length out
+  child-fits = omega (arith, size, r .room, length-grows d D d0)
+
+  pub child-two : 2 ≤ length code
+  unfolding codeLength
+  child-two = omega (arith, size)
+
+  is : code ≡ bytes d D m
+  unfolding m
+  is = rw (r .axes, r .depth) (k .good .is)
+
+  pub child-depth : getD code 1 0 + 1 ≡ suc D
+  unfolding depthOf
+  child-depth = omega (arith, r .depth)
+
+  pub child-byte : getD code 1 0 + 1 < 256
+  unfolding depthOf
+  child-byte = omega (arith, k .good .depth, depth-small (dimensionOf code) (k .range))
+
+  pub child-copied : length (paste out 0 (drop 0 code) (length code)) ≡ length out
+  child-copied = rw (copied-front out code (length code)) (length-append (take (length code) code) (drop (length code) out) ∙ simp (length-take, length-drop) (omega (arith, child-fits)))
+
+  front : paste out 0 (drop 0 code) (length code) ≡ bytes d D m ++ drop (length code) out
+  front = copied-front out code (length code) ∙ ap (λ (l : List ℕ). l ++ drop (length code) out) (take-all (length code) code (omega arith) ∙ is)
+
+  pub childBuffer : ℕ → List ℕ
+  childBuffer v = set (paste out 0 (drop 0 code) (length code)) 1 v
+
+  buffer-is : (v : ℕ) → childBuffer v ≡ d ∷ v ∷ ((m .entries ++ m .orthants) ++ drop (length code) out)
+  unfolding childBuffer
+  buffer-is v = unfold bytes in ap (λ (l : List ℕ). set l 1 v) front
+
+  buffer-size : (v : ℕ) → length (childBuffer v) ≡ length out
+  unfolding childBuffer
+  buffer-size v = length-set (paste out 0 (drop 0 code) (length code)) 1 v ∙ child-copied
+
+  buffer-name : (v : ℕ) → nameIn d D (childBuffer v) ≡ m
+  buffer-name v = rw (buffer-is v) (name-held d D d v m (drop (length code) out) (passes .signed .size) (passes .boxes .count))
+
+  ready : (v : ℕ) → (codeLength d (suc D) ≤ length (childBuffer v)) × Passes d D (nameIn d D (childBuffer v))
+  ready v = (rw (buffer-size v) (r .room), rw (buffer-name v) passes)
+
+  pub child-ready : (v : ℕ) → (codeLength d (suc D) ≤ length (set (paste out 0 (drop 0 code) (length code)) 1 v)) × Passes d D (nameIn d D (set (paste out 0 (drop 0 code) (length code)) 1 v))
+  unfolding childBuffer
+  child-ready v = ready v
+
+  written : (b v : ℕ) (a : List ℕ) → v ≡ suc D → StepsTo d D b (childBuffer v) a → a ≡ childCode b code ++ drop (codeLength d (suc D)) out
+  unfolding childCode bytes partsOf m
+  written b v a e s = framed d (suc D) a (step d D b m) d v name (s .head ∙ rw (buffer-is v) refl)
+      ∙ ap (λ (l : List ℕ). (d ∷ v ∷ ((step d D b m) .entries ++ (step d D b m) .orthants)) ++ l) (s .rest ∙ rest)
+      ∙ rw (e, ← r .axes, ← r .depth) refl
+    where
+      name : nameIn d (suc D) a ≡ step d D b m
+      name = s .name ∙ ap (step d D b) (buffer-name v)
+      rest : drop (codeLength d (suc D)) (childBuffer v) ≡ drop (codeLength d (suc D)) out
+      rest = unfold childBuffer in drop-set-lt (codeLength d (suc D)) (paste out 0 (drop 0 code) (length code)) 1 v (omega (arith, size, child-two, length-grows d D d0))
+          ∙ ap (drop (codeLength d (suc D))) (copied-front out code (length code) ∙ ap (λ (l : List ℕ). l ++ drop (length code) out) (take-all (length code) code (omega arith)))
+          ∙ drop-more code out (codeLength d (suc D)) (omega (arith, size, length-grows d D d0))
+
+  pub child-written : (b v : ℕ) (a : List ℕ) → v ≡ suc D → StepsTo d D b (set (paste out 0 (drop 0 code) (length code)) 1 v) a → a ≡ childCode b code ++ drop (codeLength d (suc D)) out
+  unfolding childBuffer
+  child-written b v a e s = written b v a e s
+
+-- the order of a child's refusals
+module _ (code : List ℕ) (which room : ℕ) where
+  deeper-room : ℕ
+  deeper-room = need (ltb (depthOf code) (greatestDepth (dimensionOf code))) refusedDeepest then need (leb (codeLength (dimensionOf code) (suc (depthOf code))) room) refusedShort
+
+  pub child-own : (x : ℕ) → x ≡ codeRefusal code → x ≢ 0 → childRefusal code which room ≡ x
+  unfolding childRefusal
+  child-own x e n = first-stands (codeRefusal code) (need (leb which 1) refusedStep then (need (ltb (depthOf code) (greatestDepth (dimensionOf code))) refusedDeepest then need (leb (codeLength (dimensionOf code) (suc (depthOf code))) room) refusedShort)) (λ q. n (e ∙ q)) ∙ sym e
+
+  module _ (p : codeRefusal code ≡ 0) where
+    past-own : childRefusal code which room ≡ (need (leb which 1) refusedStep then deeper-room)
+    unfolding childRefusal deeper-room
+    past-own = first-done (codeRefusal code) (need (leb which 1) refusedStep then (need (ltb (depthOf code) (greatestDepth (dimensionOf code))) refusedDeepest then need (leb (codeLength (dimensionOf code) (suc (depthOf code))) room) refusedShort)) p
+
+    pub child-7 : 1 < which → childRefusal code which room ≡ 7
+    child-7 h = past-own ∙ fails (leb which 1) 6 deeper-room (lt-leb which 1 h)
+
+    module _ (w : which ≤ 1) where
+      past-7 : childRefusal code which room ≡ deeper-room
+      past-7 = past-own ∙ holds (leb which 1) refusedStep deeper-room (le-leb which 1 w)
+
+      pub child-10 : greatestDepth (dimensionOf code) ≤ depthOf code → childRefusal code which room ≡ 10
+      unfolding deeper-room
+      child-10 h = past-7 ∙ fails (ltb (depthOf code) (greatestDepth (dimensionOf code))) 9 (need (leb (codeLength (dimensionOf code) (suc (depthOf code))) room) refusedShort) (le-ltb (depthOf code) (greatestDepth (dimensionOf code)) h)
+
+      module _ (l : depthOf code < greatestDepth (dimensionOf code)) where
+        past-10 : childRefusal code which room ≡ need (leb (codeLength (dimensionOf code) (suc (depthOf code))) room) refusedShort
+        unfolding deeper-room
+        past-10 = past-7 ∙ holds (ltb (depthOf code) (greatestDepth (dimensionOf code))) refusedDeepest (need (leb (codeLength (dimensionOf code) (suc (depthOf code))) room) refusedShort) (lt-ltb (depthOf code) (greatestDepth (dimensionOf code)) l)
+
+        pub child-11 : room < codeLength (dimensionOf code) (suc (depthOf code)) → childRefusal code which room ≡ 11
+        child-11 h = past-10 ∙ last-fails (leb (codeLength (dimensionOf code) (suc (depthOf code))) room) refusedShort (lt-leb (codeLength (dimensionOf code) (suc (depthOf code))) room h)
+
+        pub child-0 : codeLength (dimensionOf code) (suc (depthOf code)) ≤ room → childRefusal code which room ≡ 0
+        child-0 h = past-10 ∙ last-holds (leb (codeLength (dimensionOf code) (suc (depthOf code))) room) refusedShort (le-leb (codeLength (dimensionOf code) (suc (depthOf code))) room h)
+
+-- the child's code has the length that its depth gives
+pub child-length : (code : List ℕ) (b : ℕ) → codeRefusal code ≡ done → codeLength (dimensionOf code) (suc (depthOf code)) ≡ length (childCode b code)
+unfolding childCode bytes codeLength
+child-length code b e = sym (simp length-append (omega (arith, p .signed .size, p .boxes .count)))
+  where
+    k : Checked code
+    k = checked code e
+    p : Passes (dimensionOf code) (suc (depthOf code)) (step (dimensionOf code) (depthOf code) b (partsOf code))
+    p = step-passes (dimensionOf code) (depthOf code) (omega (arith, k .range .two)) (omega (arith, k .range .few)) (partsOf code) (k .good .passes) b
+
+-- the own byte of the box at a depth above
+pub own-no-box : (d D : ℕ) (code : List ℕ) → boxDepth d D ≡ 0 → 0 ≡ ownByte (take (boxDepth d D) (drop (2 + d) code))
+own-no-box d D code e = rw e refl
+
+pub own-last-box : (d D : ℕ) (code : List ℕ) → codeLength d D ≤ length code → (boxDepth d D ≡ 0 → ⊥) → (last : ℕ) → last ≡ 1 + d + boxDepth d D → getD code last 0 ≡ ownByte (take (boxDepth d D) (drop (2 + d) code))
+unfolding codeLength
+own-last-box d D code h n last e = sym (rw counted (getD-take (boxDepth d D) (drop (2 + d) code) (boxDepth d D - 1) 0 (omega arith) ∙ getD-drop (2 + d) code (boxDepth d D - 1) 0) ∙ ap (λ (i : ℕ). getD code i 0) there)
+  where
+    counted : length (take (boxDepth d D) (drop (2 + d) code)) ≡ boxDepth d D
+    counted = simp (length-take, length-drop) (omega arith)
+    there : 2 + d + (boxDepth d D - 1) ≡ last
+    there = omega arith
+
+-- sizes as the code computes them
+pub checked-two : (code : List ℕ) → codeRefusal code ≡ done → 2 ≤ length code
+unfolding codeLength
+checked-two code e = omega (arith, checked code e .size)
+
+pub length-next : (n d d' D D' : ℕ) → n ≡ codeLength d (D + 1) → d ≡ d' → D ≡ D' → n ≡ codeLength d' (suc D')
+length-next n d d' D D' e f g = e ∙ rw (f, g, add-one D') refl
+
+pub limit-as : (g d d' D D' : ℕ) → g ≡ greatestDepth d → d ≡ d' → D ≡ D' → g ≤ D → greatestDepth d' ≤ D'
+limit-as g d d' D D' e f h l = rw (← f, ← h, ← e) l
+
+pub below-as : (g d d' D D' : ℕ) → g ≡ greatestDepth d → d ≡ d' → D ≡ D' → D < g → D' < greatestDepth d'
+below-as g d d' D D' e f h l = rw (← f, ← h, ← e) l

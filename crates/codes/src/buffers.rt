@@ -1,0 +1,68 @@
+// Entries in a lent buffer: copied, turned as child 1 turns them, and turned back. `at` is where they begin.
+ghost use mathlib.Core.Path.{_≡_};
+ghost use Prim.Native.Nat.{suc, _+_, _≤_, _<_};
+ghost use lib.ListN.{length, getD, take, drop};
+ghost use lib.Seq.{paste};
+ghost use mathlib.Core.List.{_++_};
+ghost use Rattle.bisection.specs.Codes.{axis, turned, orthant};
+ghost use Rattle.bisection.specs.Theorems.Entries.{Signed, unturned};
+ghost use Rattle.codes.specs.Buffers.{atPlace};
+
+use crate::entries;
+
+// Copies n bytes from `from` in src to `to` in dst.
+pub fn copy(src: &[u8], from: usize, n: usize, dst: &mut [u8], to: usize)
+    requires { ⌜ (from + n ≤ length (now src)) × (to + n ≤ length (now dst)) ⌝ }
+    ensures { λ r. ⌜ now (dst .exit) ≡ paste (now (dst .entry)) to (drop from (now (src .entry))) n ⌝ }
+{
+    let mut i: usize = 0;
+    while i < n {
+        dst[to + i] = src[from + i];
+        i += 1;
+    }
+}
+
+// Turns the n + 1 entries left by one place, the one that moves to place n negated.
+pub fn turn(buf: &mut [u8], at: usize, n: usize)
+    requires { ⌜ (at + n < length (now buf)) × (1 ≤ axis (getD (now buf) at 0)) ⌝ }
+    ensures { λ r. ⌜ now (buf .exit) ≡ atPlace at (turned (suc n)) (now (buf .entry)) ⌝ }
+{
+    let first = entries::negate(buf[at]);
+    let mut i: usize = 0;
+    while i < n {
+        buf[at + i] = buf[at + i + 1];
+        i += 1;
+    }
+    buf[at + n] = first;
+}
+
+// Turns the n + 1 entries right by one place, the one that comes to the first place negated.
+pub fn unturn(buf: &mut [u8], at: usize, n: usize)
+    requires { ⌜ (at + n < length (now buf)) × (1 ≤ axis (getD (now buf) (at + n) 0)) ⌝ }
+    ensures { λ r. ⌜ now (buf .exit) ≡ atPlace at (unturned n) (now (buf .entry)) ⌝ }
+{
+    let first = entries::negate(buf[at + n]);
+    let mut i: usize = n;
+    while 0 < i {
+        buf[at + i] = buf[at + i - 1];
+        i -= 1;
+    }
+    buf[at] = first;
+}
+
+// The orthant byte of d entries: high on the axes that have a minus.
+pub fn orthant_of(buf: &[u8], at: usize, d: usize) -> u8
+    requires { ⌜ (d ≤ 8) × (at + d ≤ length (now buf)) × Signed d (take d (drop at (now buf))) ⌝ }
+    ensures { λ r. ⌜ r ≡ orthant (take d (drop at (now (buf .entry)))) ⌝ }
+{
+    let mut mask: u8 = 0;
+    let mut i: usize = 0;
+    while i < d {
+        let e = buf[at + i];
+        if entries::is_minus(e) {
+            mask = entries::raise(mask, entries::axis_of(e));
+        }
+        i += 1;
+    }
+    mask
+}

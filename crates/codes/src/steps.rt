@@ -1,0 +1,100 @@
+// One step of the bisection on a code that stands in a lent buffer, entries from place 2 on, and one step back.
+ghost use mathlib.Core.Path.{_≡_};
+ghost use Prim.Native.Nat.{suc, _+_, _-_, _≤_, _<_};
+ghost use lib.ListN.{length, getD, take, drop};
+ghost use Rattle.dimension.specs.Sizes.{axesOf, codeLength, splitPlace, boxDepth};
+ghost use mathlib.Core.List.{_++_};
+ghost use Rattle.bisection.specs.Codes.{axis, stepped, childCode};
+ghost use Rattle.bisection.specs.Theorems.CodePaths.{parentCode};
+ghost use Rattle.bisection.specs.Theorems.Entries.{Signed};
+ghost use Rattle.bisection.specs.Theorems.Passing.{Passes};
+ghost use Rattle.codes.specs.Buffers.{atPlace};
+ghost use Rattle.codes.specs.Walks.{ownByte};
+ghost use Rattle.codes.specs.Steps.{nameIn, boxed, StepsTo, StepsBack};
+ghost use Rattle.codes.specs.Relatives.{ChildReady, ParentReady};
+
+use crate::buffers;
+use crate::check;
+use dimension::Dim;
+
+// The entries after the step: child 1 turns the first k of them.
+pub fn turn_step(buf: &mut [u8], dim: Dim, depth: usize, which: u8)
+    requires { ⌜ (2 + axesOf dim ≤ length (now buf)) × Signed (axesOf dim) (take (axesOf dim) (drop 2 (now buf))) ⌝ }
+    ensures { λ r. ⌜ now (buf .exit) ≡ atPlace 2 (stepped which (splitPlace (axesOf dim) depth)) (now (buf .entry)) ⌝ }
+{
+    if which == 0 {
+        return;
+    }
+    let k = dim.split_place(depth);
+    buffers::turn(buf, 2, k - 1);
+}
+
+// The orthant after the step: one is appended when the new level is 0, that is when k was 1.
+pub fn box_step(buf: &mut [u8], dim: Dim, depth: usize)
+    requires { ⌜ (codeLength (axesOf dim) (suc depth) ≤ length (now buf)) × Signed (axesOf dim) (take (axesOf dim) (drop 2 (now buf))) ⌝ }
+    ensures { λ r. ⌜ now (buf .exit) ≡ boxed (axesOf dim) depth (now (buf .entry)) ⌝ }
+{
+    if dim.split_place(depth) != 1 {
+        return;
+    }
+    let d = dim.axes();
+    let orthant = buffers::orthant_of(buf, 2, d);
+    let at = 2 + d + dim.box_depth(depth);
+    buf[at] = orthant;
+}
+
+// The step from a depth: entries, then the orthant that they give.
+pub fn step_in(buf: &mut [u8], dim: Dim, depth: usize, which: u8)
+    requires { ⌜ (codeLength (axesOf dim) (suc depth) ≤ length (now buf)) × Passes (axesOf dim) depth (nameIn (axesOf dim) depth (now buf)) ⌝ }
+    ensures { λ r. ⌜ StepsTo (axesOf dim) depth which (now (buf .entry)) (now (buf .exit)) ⌝ }
+{
+    turn_step(buf, dim, depth, which);
+    box_step(buf, dim, depth);
+}
+
+// Takes back the last step of the entries from `at` on: entry n tells it by its sign against the parent's box.
+pub fn unstep(buf: &mut [u8], at: usize, n: usize, own: u8) -> u8
+    requires { ⌜ (at + n < length (now buf)) × (1 ≤ axis (getD (now buf) (at + n) 0)) × (axis (getD (now buf) (at + n) 0) ≤ 8) ⌝ }
+    ensures { λ r. ⌜ StepsBack at n own (now (buf .entry)) r (now (buf .exit)) ⌝ }
+{
+    if check::same_sign(buf[at + n], own) {
+        return 0;
+    }
+    buffers::unturn(buf, at, n);
+    1
+}
+
+// The byte of the own signs of the box at a depth above a code's, 0 where there is no box yet.
+pub fn own_at(code: &[u8], dim: Dim, depth: usize) -> u8
+    requires { ⌜ codeLength (axesOf dim) depth ≤ length (now code) ⌝ }
+    ensures { λ r. ⌜ r ≡ ownByte (take (boxDepth (axesOf dim) depth) (drop (2 + axesOf dim) (now (code .entry)))) ⌝ }
+{
+    let boxes = dim.box_depth(depth);
+    if boxes == 0 {
+        return 0;
+    }
+    let last = 1 + dim.axes() + boxes;
+    code[last]
+}
+
+// Writes the child's code: the code with one more depth, stepped where it stands.
+pub fn write_child(code: &[u8], dim: Dim, depth: usize, which: u8, out: &mut [u8])
+    requires { ⌜ ChildReady (now code) (axesOf dim) depth (now out) ⌝ }
+    ensures { λ r. ⌜ now (out .exit) ≡ childCode which (now (code .entry)) ++ drop (codeLength (axesOf dim) (suc depth)) (now (out .entry)) ⌝ }
+{
+    buffers::copy(code, 0, code.len(), out, 0);
+    out[1] = code[1] + 1;
+    step_in(out, dim, depth, which);
+}
+
+// Writes the parent's code, at the depth given: the front of the code with the last step taken back.
+pub fn write_parent(code: &[u8], dim: Dim, depth: usize, out: &mut [u8])
+    requires { ⌜ ParentReady (now code) (axesOf dim) depth (now out) ⌝ }
+    ensures { λ r. ⌜ now (out .exit) ≡ parentCode (now (code .entry)) ++ drop (codeLength (axesOf dim) depth) (now (out .entry)) ⌝ }
+{
+    let own = own_at(code, dim, depth);
+    let n = dim.split_place(depth) - 1;
+    buffers::copy(code, 0, dim.code_length(depth), out, 0);
+    out[1] = code[1] - 1;
+    unstep(out, 2, n, own);
+}

@@ -1,0 +1,50 @@
+// The C side: one exported function for each entry, with the entry's own contract. include/reshmokhit.h declares them.
+// A slice is a pointer and a length there; what is assumed of the pointers stands in the header.
+ghost use mathlib.Core.Path.{_≡_};
+ghost use Rattle.bisection.specs.Refusals.{codeRefusal};
+ghost use Rattle.codes.specs.Outcomes.{PathToCode, CodeToPath, Vertices, Child, Parent};
+
+use codes::PathWritten;
+use codes::Written;
+
+#[no_mangle]
+pub extern "C" fn rmk_code_check(code: &[u8]) -> u8
+    ensures { λ r. ⌜ r ≡ codeRefusal (now (code .entry)) ⌝ }
+{
+    codes::code_check(code)
+}
+
+#[no_mangle]
+pub extern "C" fn rmk_path_to_code(root: &[u8], path: &[u8], code: &mut [u8]) -> Written
+    ensures { λ r. ⌜ PathToCode (now (root .entry)) (now (path .entry)) (now (code .entry)) r (now (code .exit)) ⌝ }
+{
+    codes::path_to_code(root, path, code)
+}
+
+#[no_mangle]
+pub extern "C" fn rmk_code_to_path(code: &[u8], root: &mut [u8], path: &mut [u8]) -> PathWritten
+    ensures { λ r. ⌜ CodeToPath (now (code .entry)) (now (root .entry)) (now (path .entry)) r (now (root .exit)) (now (path .exit)) ⌝ }
+{
+    codes::code_to_path(code, root, path)
+}
+
+#[no_mangle]
+pub extern "C" fn rmk_vertices(code: &[u8], points: &mut [u8]) -> Written
+    ensures { λ r. ⌜ Vertices (now (code .entry)) (now (points .entry)) r (now (points .exit)) ⌝ }
+{
+    codes::vertices(code, points)
+}
+
+#[no_mangle]
+pub extern "C" fn rmk_child(code: &[u8], which: u8, out: &mut [u8]) -> Written
+    ensures { λ r. ⌜ Child (now (code .entry)) which (now (out .entry)) r (now (out .exit)) ⌝ }
+{
+    codes::child(code, which, out)
+}
+
+#[no_mangle]
+pub extern "C" fn rmk_parent(code: &[u8], out: &mut [u8]) -> Written
+    ensures { λ r. ⌜ Parent (now (code .entry)) (now (out .entry)) r (now (out .exit)) ⌝ }
+{
+    codes::parent(code, out)
+}
