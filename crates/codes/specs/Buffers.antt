@@ -38,105 +38,123 @@ module _ (at : ℕ) (change : List ℕ → List ℕ) (l : List ℕ) (h : at ≤ 
   unfolding atPlace
   place-length e = length-append (take at l) (change (drop at l)) ∙ rw (front-length, e, length-drop at l) (omega arith)
 
--- a list is the change of another where it agrees before the place and from it on
-place-is : (at : ℕ) (change : List ℕ → List ℕ) (l r : List ℕ) → at ≤ length l → length r ≡ length l → length (change (drop at l)) ≡ length (drop at l)
-    → ((j : ℕ) → j < at → getD r j 0 ≡ getD l j 0) → ((j : ℕ) → at + j < length l → getD r (at + j) 0 ≡ getD (change (drop at l)) j 0) → r ≡ atPlace at change l
-place-is at change l r h size e low high = ext-getD 0 r (atPlace at change l) (size ∙ sym (place-length at change l h e)) (λ j q. go j q (decLt j at))
-  where
-    go : (j : ℕ) → j < length r → Dec (j < at) → getD r j 0 ≡ getD (atPlace at change l) j 0
-    go j q (yes p) = low j p ∙ sym (place-before at change l h j p)
-    go j q (no p) = subst (λ (i : ℕ). getD r i 0 ≡ getD (atPlace at change l) i 0) back (high (j - at) (omega arith) ∙ sym (place-from at change l h (j - at)))
-      where
-        back : at + (j - at) ≡ j
-        back = omega arith
-
 -- one more byte copied
 pub copied-next : (d : List ℕ) (to from : ℕ) (s : List ℕ) (i : ℕ) → to + i < length d → from + i < length s
     → set (paste d to (drop from s) i) (to + i) (getD s (from + i) 0) ≡ paste d to (drop from s) (i + 1)
 copied-next d to from s i h l = rw (add-one i, ← getD-drop from s i 0) (paste-suc d to (drop from s) i 0 h (rw (length-drop from s) (omega arith)))
 
--- a turn under way: places before i have taken the entry after them
-pub record Turning (l : List ℕ) (at i : ℕ) (buf : List ℕ) : Type 0 where
+-- a buffer under way from l to f: the places from lo up to hi are f's already
+pub record Filled (l f : List ℕ) (lo hi : ℕ) (buf : List ℕ) : Type 0 where
   pub size : length buf ≡ length l
-  pub before : (j : ℕ) → j < at → getD buf j 0 ≡ getD l j 0
-  pub moved : (j : ℕ) → j < i → getD buf (at + j) 0 ≡ getD l (at + j + 1) 0
-  pub rest : (j : ℕ) → i ≤ j → getD buf (at + j) 0 ≡ getD l (at + j) 0
+  pub below : (p : ℕ) → p < lo → getD buf p 0 ≡ getD l p 0
+  pub inside : (p : ℕ) → lo ≤ p → p < hi → getD buf p 0 ≡ getD f p 0
+  pub above : (p : ℕ) → hi ≤ p → getD buf p 0 ≡ getD l p 0
 
-pub turning-none : (l : List ℕ) (at : ℕ) → Turning l at 0 l
-turning-none l at = record { size = refl; before = λ j h. refl; moved = λ j h. absurd (omega arith); rest = λ j h. refl }
+filled-none : (l f : List ℕ) (lo hi : ℕ) → lo ≡ hi → Filled l f lo hi l
+filled-none l f lo hi e = record { size = refl; below = λ p h. refl; inside = λ p h k. absurd (omega arith); above = λ p h. refl }
 
-assoc : (at i : ℕ) → at + i + 1 ≡ at + suc i
-assoc at i = omega arith
-
-module _ {l : List ℕ} {at i : ℕ} {buf : List ℕ} (t : Turning l at i buf) where
-  pub turning-next : at + i < length l → Turning l at (i + 1) (set buf (at + i) (getD buf (at + i + 1) 0))
-  turning-next h = record
-    { size = length-set buf (at + i) (getD buf (at + i + 1) 0) ∙ t .size
-    ; before = λ j q. getD-set-other buf (at + i) j (getD buf (at + i + 1) 0) 0 (omega arith) ∙ t .before j q
-    ; moved = λ j q. moved j q (ℕ-discrete j i)
-    ; rest = λ j q. getD-set-other buf (at + i) (at + j) (getD buf (at + i + 1) 0) 0 (omega arith) ∙ t .rest j (omega arith) }
+module _ {l f : List ℕ} {lo hi : ℕ} {buf : List ℕ} (t : Filled l f lo hi buf) where
+  -- one place more below, or above
+  filled-down : (lo' x : ℕ) → suc lo' ≡ lo → lo' < hi → lo' < length l → x ≡ getD f lo' 0 → Filled l f lo' hi (set buf lo' x)
+  filled-down lo' x e k h q = record
+    { size = length-set buf lo' x ∙ t .size
+    ; below = λ p r. getD-set-other buf lo' p x 0 (omega arith) ∙ t .below p (omega arith)
+    ; inside = λ p r w. go p r w (ℕ-discrete p lo')
+    ; above = λ p r. getD-set-other buf lo' p x 0 (omega arith) ∙ t .above p r }
     where
-      next : getD buf (at + i + 1) 0 ≡ getD l (at + i + 1) 0
-      next = rw (assoc at i) (t .rest (suc i) (omega arith))
-      moved : (j : ℕ) → j < i + 1 → Dec (j ≡ i) → getD (set buf (at + i) (getD buf (at + i + 1) 0)) (at + j) 0 ≡ getD l (at + j + 1) 0
-      moved j q (yes e) = rw (e, getD-set-same buf (at + i) (getD buf (at + i + 1) 0) 0 (omega (arith, t .size))) next
-      moved j q (no e) = getD-set-other buf (at + i) (at + j) (getD buf (at + i + 1) 0) 0 (omega arith) ∙ t .moved j (omega arith)
+      go : (p : ℕ) → lo' ≤ p → p < hi → Dec (p ≡ lo') → getD (set buf lo' x) p 0 ≡ getD f p 0
+      go p r w (yes c) = rw (c, getD-set-same buf lo' x 0 (omega (arith, t .size))) q
+      go p r w (no c) = getD-set-other buf lo' p x 0 c ∙ t .inside p (omega arith) w
 
-  pub turning-all : (n : ℕ) → i ≤ n → n ≤ i → at + n < length l → (first : ℕ) → first ≡ negated (getD l at 0) → set buf (at + n) first ≡ atPlace at (turned (suc n)) l
-  turning-all n u w h first f = place-is at (turned (suc n)) l (set buf (at + n) first) (omega arith) (length-set buf (at + n) first ∙ t .size) (turned-length n (drop at l) room)
-      (λ j q. getD-set-other buf (at + n) j first 0 (omega arith) ∙ t .before j q) (λ j q. go j (decLt j n) (ℕ-discrete j n))
+  filled-up : (x hi' : ℕ) → hi' ≡ suc hi → lo ≤ hi → hi < length l → x ≡ getD f hi 0 → Filled l f lo hi' (set buf hi x)
+  filled-up x hi' e k h q = record
+    { size = length-set buf hi x ∙ t .size
+    ; below = λ p r. getD-set-other buf hi p x 0 (omega arith) ∙ t .below p r
+    ; inside = λ p r w. go p r w (ℕ-discrete p hi)
+    ; above = λ p r. getD-set-other buf hi p x 0 (omega arith) ∙ t .above p (omega arith) }
     where
-      room : n < length (drop at l)
-      room = rw (length-drop at l) (omega arith)
-      go : (j : ℕ) → Dec (j < n) → Dec (j ≡ n) → getD (set buf (at + n) first) (at + j) 0 ≡ getD (turned (suc n) (drop at l)) j 0
-      go j (yes q) e = getD-set-other buf (at + n) (at + j) first 0 (omega arith) ∙ t .moved j (omega arith) ∙ rw (assoc at j) (sym (turned-before n (drop at l) room j q ∙ getD-drop at l (suc j) 0))
-      go j (no q) (yes e) = rw (e, getD-set-same buf (at + n) first 0 (omega (arith, t .size))) (f ∙ ap negated (sym (getD-drop at l 0 0 ∙ ap (λ (m : ℕ). getD l m 0) (omega arith))) ∙ sym (turned-at n (drop at l) room n refl))
-      go j (no q) (no e) = getD-set-other buf (at + n) (at + j) first 0 (omega arith) ∙ t .rest j (omega arith) ∙ sym (turned-past n (drop at l) room j (omega arith) ∙ getD-drop at l j 0)
+      go : (p : ℕ) → lo ≤ p → p < hi' → Dec (p ≡ hi) → getD (set buf hi x) p 0 ≡ getD f p 0
+      go p r w (yes c) = rw (c, getD-set-same buf hi x 0 (omega (arith, t .size))) q
+      go p r w (no c) = getD-set-other buf hi p x 0 c ∙ t .inside p r (omega arith)
 
--- the way back under way: places after i, up to n, have taken the entry before them
-pub record Unturning (l : List ℕ) (at n i : ℕ) (buf : List ℕ) : Type 0 where
-  pub size : length buf ≡ length l
-  pub before : (j : ℕ) → j < at → getD buf j 0 ≡ getD l j 0
-  pub kept : (j : ℕ) → j ≤ i → getD buf (at + j) 0 ≡ getD l (at + j) 0
-  pub moved : (j : ℕ) → i ≤ j → j < n → getD buf (at + suc j) 0 ≡ getD l (at + j) 0
-  pub rest : (j : ℕ) → n < j → getD buf (at + j) 0 ≡ getD l (at + j) 0
-
-pub unturning-none : (l : List ℕ) (at n : ℕ) → Unturning l at n n l
-unturning-none l at n = record { size = refl; before = λ j h. refl; kept = λ j h. refl; moved = λ j h q. absurd (omega arith); rest = λ j h. refl }
-
-module _ {l : List ℕ} {at n i : ℕ} {buf : List ℕ} (t : Unturning l at n i buf) where
-  pub unturning-next : 0 < i → i ≤ n → at + n < length l → Unturning l at n (i - 1) (set buf (at + i) (getD buf (at + i - 1) 0))
-  unturning-next p u h = record
-    { size = length-set buf (at + i) (getD buf (at + i - 1) 0) ∙ t .size
-    ; before = λ j q. getD-set-other buf (at + i) j (getD buf (at + i - 1) 0) 0 (omega arith) ∙ t .before j q
-    ; kept = λ j q. getD-set-other buf (at + i) (at + j) (getD buf (at + i - 1) 0) 0 (omega arith) ∙ t .kept j (omega arith)
-    ; moved = λ j q r. moved j q r (ℕ-discrete (suc j) i)
-    ; rest = λ j q. getD-set-other buf (at + i) (at + j) (getD buf (at + i - 1) 0) 0 (omega arith) ∙ t .rest j q }
+  filled-all : length f ≡ length l → ((p : ℕ) → p < lo → getD f p 0 ≡ getD l p 0) → ((p : ℕ) → hi ≤ p → getD f p 0 ≡ getD l p 0) → buf ≡ f
+  filled-all e low high = ext-getD 0 buf f (t .size ∙ sym e) (λ p r. go p (decLt p lo) (decLt p hi))
     where
-      moved : (j : ℕ) → i - 1 ≤ j → j < n → Dec (suc j ≡ i) → getD (set buf (at + i) (getD buf (at + i - 1) 0)) (at + suc j) 0 ≡ getD l (at + j) 0
-      moved j q r (yes e) = rw (e, getD-set-same buf (at + i) (getD buf (at + i - 1) 0) 0 (omega (arith, t .size))) (ap (λ (m : ℕ). getD buf m 0) less ∙ t .kept j (omega arith))
-        where
-          less : at + i - 1 ≡ at + j
-          less = omega arith
-      moved j q r (no e) = getD-set-other buf (at + i) (at + suc j) (getD buf (at + i - 1) 0) 0 (omega arith) ∙ t .moved j (omega arith) r
+      go : (p : ℕ) → Dec (p < lo) → Dec (p < hi) → getD buf p 0 ≡ getD f p 0
+      go p (yes h) k = t .below p h ∙ sym (low p h)
+      go p (no h) (yes k) = t .inside p (omega arith) k
+      go p (no h) (no k) = t .above p (omega arith) ∙ sym (high p (omega arith))
 
-  pub unturning-all : i ≤ 0 → at + n < length l → (first : ℕ) → first ≡ negated (getD l (at + n) 0) → set buf at first ≡ atPlace at (unturned n) l
-  unturning-all z h first f = place-is at (unturned n) l (set buf at first) (omega arith) (length-set buf at first ∙ t .size) (unturned-length n (drop at l) room)
-      (λ j q. getD-set-other buf at j first 0 (omega arith) ∙ t .before j q) (λ j q. go j)
+-- what a change of the first n + 1 entries from a place leaves alone
+record Kept (l f : List ℕ) (at n : ℕ) : Type 0 where
+  pub size : length f ≡ length l
+  pub below : (p : ℕ) → p < at → getD f p 0 ≡ getD l p 0
+  pub above : (p : ℕ) → at + suc n ≤ p → getD f p 0 ≡ getD l p 0
+
+kept : (l : List ℕ) (at n : ℕ) (change : List ℕ → List ℕ) → at + n < length l → length (change (drop at l)) ≡ length (drop at l)
+    → ((j : ℕ) → n < j → getD (change (drop at l)) j 0 ≡ getD (drop at l) j 0) → Kept l (atPlace at change l) at n
+kept l at n change h e past = record
+  { size = place-length at change l (omega arith) e
+  ; below = place-before at change l (omega arith)
+  ; above = λ p q. go p q }
+  where
+    go : (p : ℕ) → at + suc n ≤ p → getD (atPlace at change l) p 0 ≡ getD l p 0
+    go p q = subst (λ (i : ℕ). getD (atPlace at change l) i 0 ≡ getD l i 0) back (place-from at change l (omega arith) (p - at) ∙ past (p - at) (omega arith) ∙ getD-drop at l (p - at) 0)
+      where
+        back : at + (p - at) ≡ p
+        back = omega arith
+
+-- a turn under way, from the last of its places down: `moved` is what comes next
+pub record Turning (l : List ℕ) (at n i : ℕ) (buf : List ℕ) (moved : ℕ) : Type 0 where
+  pub filled : Filled l (atPlace at (turned (suc n)) l) (at + i) (at + suc n) buf
+  pub next : (j : ℕ) → suc j ≡ i → moved ≡ getD (atPlace at (turned (suc n)) l) (at + j) 0
+
+module _ (l : List ℕ) (at n : ℕ) (h : at + n < length l) where
+  room : n < length (drop at l)
+  room = rw (length-drop at l) (omega arith)
+
+  turn-kept : Kept l (atPlace at (turned (suc n)) l) at n
+  turn-kept = kept l at n (turned (suc n)) h (turned-length n (drop at l) room) (turned-past n (drop at l) room)
+
+  pub turning-none : (moved : ℕ) → moved ≡ negated (getD l at 0) → Turning l at n (n + 1) l moved
+  turning-none moved e = record { filled = filled-none l (atPlace at (turned (suc n)) l) (at + (n + 1)) (at + suc n) (omega arith); next = λ j q. last j (omega arith) }
     where
-      room : n < length (drop at l)
-      room = rw (length-drop at l) (omega arith)
       begin : at + 0 ≡ at
       begin = omega arith
-      go : (j : ℕ) → getD (set buf at first) (at + j) 0 ≡ getD (unturned n (drop at l)) j 0
-      go zero = unfold unturned in rw (begin, getD-set-same buf at first 0 (omega (arith, t .size))) (f ∙ ap negated (sym (getD-drop at l n 0)))
-      go (suc j) = pick (decLt j n)
-        where
-          other : getD (set buf at first) (at + suc j) 0 ≡ getD buf (at + suc j) 0
-          other = getD-set-other buf at (at + suc j) first 0 (omega arith)
-          pick : Dec (j < n) → getD (set buf at first) (at + suc j) 0 ≡ getD (unturned n (drop at l)) (suc j) 0
-          pick (yes q) = other ∙ t .moved j (omega arith) q ∙ sym (unturned-moved n (drop at l) room j q ∙ getD-drop at l j 0)
-          pick (no q) = other ∙ t .rest (suc j) (omega arith) ∙ sym (unturned-past n (drop at l) room (suc j) (omega arith) ∙ getD-drop at l (suc j) 0)
+      last : (j : ℕ) → j ≡ n → moved ≡ getD (atPlace at (turned (suc n)) l) (at + j) 0
+      last j q = e ∙ sym (place-from at (turned (suc n)) l (omega arith) j ∙ turned-at n (drop at l) room j q ∙ ap negated (getD-drop at l 0 0 ∙ ap (λ (i : ℕ). getD l i 0) begin))
+
+  pub turning-next : (i : ℕ) (buf : List ℕ) (moved : ℕ) → 0 < i → i ≤ n + 1 → Turning l at n i buf moved → Turning l at n (i - 1) (set buf (at + (i - 1)) moved) (getD buf (at + (i - 1)) 0)
+  turning-next i buf moved p u t = record
+    { filled = filled-down (t .filled) (at + (i - 1)) moved (omega arith) (omega arith) (omega arith) (t .next (i - 1) (omega arith))
+    ; next = λ j q. t .filled .below (at + (i - 1)) (omega arith) ∙ ap (λ (x : ℕ). getD l (at + x) 0) (sym q) ∙ sym (place-from at (turned (suc n)) l (omega arith) j ∙ turned-before n (drop at l) room j (omega arith) ∙ getD-drop at l (suc j) 0) }
+
+  pub turning-all : (i : ℕ) (buf : List ℕ) (moved : ℕ) → i ≤ 0 → Turning l at n i buf moved → buf ≡ atPlace at (turned (suc n)) l
+  turning-all i buf moved z t = filled-all (t .filled) (turn-kept .size) (λ p q. turn-kept .below p (omega arith)) (turn-kept .above)
+
+-- the way back under way, from the first of its places up
+pub record Unturning (l : List ℕ) (at n i : ℕ) (buf : List ℕ) (moved : ℕ) : Type 0 where
+  pub filled : Filled l (atPlace at (unturned n) l) at (at + i) buf
+  pub next : i ≤ n → moved ≡ getD (atPlace at (unturned n) l) (at + i) 0
+
+module _ (l : List ℕ) (at n : ℕ) (h : at + n < length l) where
+  back-room : n < length (drop at l)
+  back-room = rw (length-drop at l) (omega arith)
+
+  unturn-kept : Kept l (atPlace at (unturned n) l) at n
+  unturn-kept = kept l at n (unturned n) h (unturned-length n (drop at l) back-room) (unturned-past n (drop at l) back-room)
+
+  pub unturning-none : (moved : ℕ) → moved ≡ negated (getD l (at + n) 0) → Unturning l at n 0 l moved
+  unfolding unturned
+  unturning-none moved e = record { filled = filled-none l (atPlace at (unturned n) l) at (at + 0) (omega arith); next = λ q. e ∙ sym (place-from at (unturned n) l (omega arith) 0 ∙ ap negated (getD-drop at l n 0)) }
+
+  pub unturning-next : (i : ℕ) (buf : List ℕ) (moved : ℕ) → i ≤ n → Unturning l at n i buf moved → Unturning l at n (i + 1) (set buf (at + i) moved) (getD buf (at + i) 0)
+  unturning-next i buf moved u t = record
+    { filled = filled-up (t .filled) moved (at + (i + 1)) (omega arith) (omega arith) (omega arith) (t .next u)
+    ; next = λ q. t .filled .above (at + i) (omega arith) ∙ sym (ap (λ (x : ℕ). getD (atPlace at (unturned n) l) (at + x) 0) (add-one i) ∙ place-from at (unturned n) l (omega arith) (suc i) ∙ unturned-moved n (drop at l) back-room i (omega arith) ∙ getD-drop at l i 0) }
+
+  pub unturning-all : (i : ℕ) (buf : List ℕ) (moved : ℕ) → n < i → i ≤ n + 1 → Unturning l at n i buf moved → buf ≡ atPlace at (unturned n) l
+  unturning-all i buf moved u w t = filled-all (t .filled) (unturn-kept .size) (unturn-kept .below) (λ p q. unturn-kept .above p (omega arith))
 
 -- the orthant mask under way: entries before i are marked, the others not yet
 pub record Marking (d : ℕ) (es : List ℕ) (i mask : ℕ) : Type 0 where

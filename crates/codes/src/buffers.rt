@@ -27,13 +27,14 @@ pub fn turn(buf: &mut [u8], at: usize, n: usize)
     requires { ⌜ (at + n < length (now buf)) × (1 ≤ axis (getD (now buf) at 0)) ⌝ }
     ensures { λ r. ⌜ now (buf .exit) ≡ atPlace at (turned (suc n)) (now (buf .entry)) ⌝ }
 {
-    let first = entries::negate(buf[at]);
-    let mut i: usize = 0;
-    while i < n {
-        buf[at + i] = buf[at + i + 1];
-        i += 1;
+    let mut moved = entries::negate(buf[at]);
+    let mut i: usize = n + 1;
+    while 0 < i {
+        i -= 1;
+        let e = buf[at + i];
+        buf[at + i] = moved;
+        moved = e;
     }
-    buf[at + n] = first;
 }
 
 // Turns the n + 1 entries right by one place, the one that comes to the first place negated.
@@ -41,13 +42,14 @@ pub fn unturn(buf: &mut [u8], at: usize, n: usize)
     requires { ⌜ (at + n < length (now buf)) × (1 ≤ axis (getD (now buf) (at + n) 0)) ⌝ }
     ensures { λ r. ⌜ now (buf .exit) ≡ atPlace at (unturned n) (now (buf .entry)) ⌝ }
 {
-    let first = entries::negate(buf[at + n]);
-    let mut i: usize = n;
-    while 0 < i {
-        buf[at + i] = buf[at + i - 1];
-        i -= 1;
+    let mut moved = entries::negate(buf[at + n]);
+    let mut i: usize = 0;
+    while i <= n {
+        let e = buf[at + i];
+        buf[at + i] = moved;
+        moved = e;
+        i += 1;
     }
-    buf[at] = first;
 }
 
 // The orthant byte of d entries: high on the axes that have a minus.

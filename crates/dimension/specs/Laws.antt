@@ -4,7 +4,7 @@ use mathlib.Core.Bool.{Bool, true, false, _||_}
 use mathlib.Core.Logic.{_⊎_, inl, inr}
 use Prim.Native.Nat.{ℕ, zero, suc, _+_, _*_, _/_, _%_, _-_, _^_, _≤_, _<_}
 use native.Mathlib.Omega.{arith}
-use native.Mathlib.Nat.{div-add-mod', mod-lt, div-div-eq-div-mul, div-lt-iff-lt-mul, mul-div-right, zero-div, zero-mod, eq-of-mul-eq-mul-left, mul-lt-mul-of-pos-right, mul-le-mul-left, mul-le-mul, le-div-iff-mul-le, div-mul-le-self, mul-assoc, lt-of-mul-lt-mul-right}
+use native.Mathlib.Nat.{div-add-mod', mod-lt, div-div-eq-div-mul, div-lt-iff-lt-mul, mul-div-right, zero-div, zero-mod, eq-of-mul-eq-mul-left, mul-lt-mul-of-pos-right, mul-le-mul-left, mul-le-mul, le-div-iff-mul-le, div-mul-le-self, mul-assoc, lt-of-mul-lt-mul-right, mul-le-mul-right, mul-div-mul-right, mod-eq-sub-mul-div, mul-div-le}
 use native.Mathlib.Decide.{decLt, ℕ-discrete}
 use lib.Arith.{digits-div, digits-mod}
 use lib.Pow.{pow-add, pow-pos, pow-lt}
@@ -196,13 +196,40 @@ box-small d D n = div-le D d (n .two)
 pub four : {d : ℕ} → Dimension d → (d ≡ 2 → ⊥) → (d ≡ 3 → ⊥) → d ≡ 4
 four n a b = omega (arith, n .two, n .few)
 
-pub box-depth-by : (d D n : ℕ) → d ≡ n → D / n ≡ boxDepth d D
+-- a quotient by the dimension, as one by twelve
+pub box-depth-by : (d D p : ℕ) → 0 < d → d * p ≡ 12 → D * p / 12 ≡ boxDepth d D
 unfolding boxDepth
-box-depth-by d D n e = rw e
+box-depth-by d D p d0 e = rw (← e) (mul-div-mul-right D d pos)
+  where
+    pos : 0 < p
+    pos = go p e
+      where
+        go : (p : ℕ) → d * p ≡ 12 → 0 < p
+        go zero q = absurd (omega arith)
+        go (suc p) q = omega arith
 
-pub split-place-by : (d D n : ℕ) → d ≡ n → n - D % n ≡ splitPlace d D
-unfolding splitPlace level
-split-place-by d D n e = rw e
+pub twelfths-few : (d p : ℕ) → Dimension d → d * p ≡ 12 → p ≤ 12
+twelfths-few d p n e = omega (arith, mul-le-mul-right p (n .two))
+
+pub fits-product : (D p : ℕ) → D < 65536 → p ≤ 12 → D * p < 2 ^ 64
+fits-product D p h l = omega (arith, mul-le-mul {n₁ = D} {m₁ = p} {n₂ = 65535} {m₂ = 12} (omega arith) l)
+
+-- the split place from the quotient
+module _ (d D x q : ℕ) (e : x ≡ d) (f : q ≡ boxDepth d D) where
+  pub split-sub : x * q ≤ D
+  unfolding boxDepth
+  split-sub = rw (e, f) (mul-div-le D d)
+
+  pub split-fits : D < 2 ^ 64 → x * q < 2 ^ 64
+  split-fits h = omega (arith, split-sub)
+
+  pub split-is : x - (D - x * q) ≡ splitPlace d D
+  unfolding boxDepth splitPlace level
+  split-is = rw (e, f) (ap (λ (r : ℕ). d - r) (sym (mod-eq-sub-mul-div D d)))
+
+pub split-rest : (d D x q : ℕ) → 0 < d → x ≡ d → q ≡ boxDepth d D → D - x * q ≤ x
+unfolding boxDepth
+split-rest d D x q d0 e f = rw (e, f) (omega (arith, mod-eq-sub-mul-div D d, mod-lt D d0))
 
 pub root-count : (d : Dim) (n : ℕ) → n ≡ rootsOf d → n ≡ rootCount (axesOf d)
 unfolding rootCount

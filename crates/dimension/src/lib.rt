@@ -3,7 +3,7 @@
 // `halvings` there; nothing else in code or definitions names a number of them.
 ghost use mathlib.Core.Path.{_≡_};
 ghost use mathlib.Core.Bool.{true};
-ghost use Prim.Native.Nat.{_≤_};
+ghost use Prim.Native.Nat.{_*_, _≤_};
 ghost use Rattle.dimension.specs.Sizes.{isDimension, axesOf, greatestDepth, boxDepth, splitPlace, boxSide, codeLength, longestCode, rootCount};
 ghost use Rattle.dimension.specs.Known.{KnownIs};
 
@@ -79,18 +79,26 @@ impl Dim {
         }
     }
 
-    // How often the cube was halved to give the box at a depth. Each division is by a constant.
+    // Twelve divided by the axes.
+    pub fn twelfths(self) -> usize
+        ensures { λ r. ⌜ axesOf self * r ≡ 12 ⌝ }
+    {
+        match self {
+            Dim::Two => 6,
+            Dim::Three => 4,
+            Dim::Four => 3,
+        }
+    }
+
+    // How often the cube was halved to give the box at a depth. The dimensions divide twelve, so that one division
+    // by a constant serves them all, with no branch on the dimension, at every depth that a byte can hold.
     pub fn box_depth(self, depth: usize) -> usize
         ensures { λ r. ⌜ r ≡ boxDepth (axesOf self) depth ⌝ }
     {
-        let axes = self.axes();
-        if axes == 2 {
-            return depth / 2;
+        if depth < 65536 {
+            return depth * self.twelfths() / 12;
         }
-        if axes == 3 {
-            return depth / 3;
-        }
-        depth / 4
+        depth / self.axes()
     }
 
     // The place k of the split edge's second end at a depth.
@@ -98,13 +106,7 @@ impl Dim {
         ensures { λ r. ⌜ r ≡ splitPlace (axesOf self) depth ⌝ }
     {
         let axes = self.axes();
-        if axes == 2 {
-            return 2 - depth % 2;
-        }
-        if axes == 3 {
-            return 3 - depth % 3;
-        }
-        4 - depth % 4
+        axes - (depth - axes * self.box_depth(depth))
     }
 
     // The length of a code at a depth.

@@ -1,21 +1,32 @@
--- `Dim::box_depth` meets its contract: in each case the divisor is the dimension.
-use mathlib.Core.Path.{sym, _∙_}
-use Rattle.dimension.specs.Laws.{box-depth-by, four, axes-range}
+-- `Dim::box_depth` meets its contract: a quotient by twelve of a small depth, by the axes of any other.
+use mathlib.Core.Path.{_≡_, refl, sym, ap, _∙_}
+use Prim.Native.Nat.{ℕ, _*_, _-_, _≤_}
+use native.Mathlib.Omega.{arith}
+use Rattle.dimension.specs.Sizes.{boxDepth}
+use Rattle.dimension.specs.Laws.{axes-range, box-depth-by, twelfths-few, fits-product}
 use borrow.Author.Needs.{needs}
 use Rattle.dimension.proofs.Dim.box_depth.Statement.{statement}
 use Rattle.dimension.proofs.Dim.box_depth.Tie as tie
 
+twelfths-requires : tie.Need-twelfths-requires
+twelfths-requires c κs = search needs
+
+mul-result : tie.Need-mul-result
+mul-result c = record { fits = fits-product (c .before .before .args .depth) (c .twelfths .result) (c .before .if1 .taken) (twelfths-few _ _ (axes-range (c .before .before .args .self)) (c .twelfths .ensures)) }
+
+returns : tie.Need-returns
+returns c = box-depth-by _ _ _ (omega (arith, (axes-range (c .before .before .args .self)) .two)) (c .twelfths .ensures)
+
 axes-requires : tie.Need-axes-requires
 axes-requires c κs = search needs
 
-returns : tie.Need-returns
-returns c = box-depth-by _ _ 2 (sym (c .before .axes .ensures) ∙ c .if1 .taken)
+div-result : tie.Need-div-result
+div-result c = omega (arith, c .axes .ensures, (axes-range (c .before .before .args .self)) .two)
 
 returns-2 : tie.Need-returns-2
-returns-2 c = box-depth-by _ _ 3 (sym (c .before .before .axes .ensures) ∙ c .if2 .taken)
-
-returns-3 : tie.Need-returns-3
-returns-3 c = box-depth-by _ _ 4 (sym (c .before .before .axes .ensures) ∙ four (rw (c .before .before .axes .ensures) (axes-range (c .before .before .before .args .self))) (c .before .if1 .left) (c .if2 .left))
+unfolding boxDepth
+returns-2 c = rw (c .axes .ensures) refl
 
 pub box-depth-spec : {M : Type 1} → statement M
-box-depth-spec = tie.close (tie.spec axes-requires returns returns-2 returns-3)
+box-depth-spec =
+    tie.close (tie.spec twelfths-requires mul-result returns axes-requires div-result returns-2)

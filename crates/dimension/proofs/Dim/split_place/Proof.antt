@@ -1,6 +1,8 @@
--- `Dim::split_place` meets its contract: in each case the divisor is the dimension.
-use mathlib.Core.Path.{sym, _∙_}
-use Rattle.dimension.specs.Laws.{split-place-by, four, axes-range}
+-- `Dim::split_place` meets its contract: the remainder from the quotient.
+use mathlib.Core.Path.{_≡_, refl, sym, ap, _∙_}
+use Prim.Native.Nat.{ℕ, _*_, _-_, _≤_}
+use native.Mathlib.Omega.{arith}
+use Rattle.dimension.specs.Laws.{axes-range, split-fits, split-sub, split-rest, split-is}
 use borrow.Author.Needs.{needs}
 use Rattle.dimension.proofs.Dim.split_place.Statement.{statement}
 use Rattle.dimension.proofs.Dim.split_place.Tie as tie
@@ -8,25 +10,22 @@ use Rattle.dimension.proofs.Dim.split_place.Tie as tie
 axes-requires : tie.Need-axes-requires
 axes-requires c κs = search needs
 
-sub-result : tie.Need-sub-result
-sub-result c = search needs
+box-depth-requires : tie.Need-box-depth-requires
+box-depth-requires c κs = search needs
 
-returns : tie.Need-returns
-returns c = split-place-by _ _ 2 (sym (c .before .axes .ensures) ∙ c .if1 .taken)
+mul-result : tie.Need-mul-result
+mul-result c = record { fits = split-fits _ _ _ _ (c .before .axes .ensures) (c .box-depth .ensures) (omega arith) }
+
+sub-result : tie.Need-sub-result
+sub-result c = split-sub _ _ _ _ (c .before .axes .ensures) (c .box-depth .ensures)
 
 sub-result-2 : tie.Need-sub-result-2
-sub-result-2 c = search needs
+sub-result-2 c = split-rest _ _ _ _ (omega (arith, (axes-range (c .before .before .args .self)) .two)) (c .before .axes .ensures) (c .box-depth .ensures)
 
-returns-2 : tie.Need-returns-2
-returns-2 c = split-place-by _ _ 3 (sym (c .before .before .axes .ensures) ∙ c .if2 .taken)
-
-sub-result-3 : tie.Need-sub-result-3
-sub-result-3 c = search needs
-
-returns-3 : tie.Need-returns-3
-returns-3 c = split-place-by _ _ 4 (sym (c .before .before .axes .ensures) ∙ four (rw (c .before .before .axes .ensures) (axes-range (c .before .before .before .args .self))) (c .before .if1 .left) (c .if2 .left))
+returns : tie.Need-returns
+returns c = split-is _ _ _ _ (c .before .axes .ensures) (c .box-depth .ensures)
 
 pub split-place-spec : {M : Type 1} → statement M
 split-place-spec =
     tie.close
-    (tie.spec axes-requires sub-result returns sub-result-2 returns-2 sub-result-3 returns-3)
+    (tie.spec axes-requires box-depth-requires mul-result sub-result sub-result-2 returns)
