@@ -1,0 +1,83 @@
+-- What the promises of the code layer leave open: nothing. Two outcomes that an entry's contract allows for one
+-- input are equal, the answer and every lent cell.
+use mathlib.Core.Path.{_≡_, refl, sym, ap, _∙_, subst}
+use mathlib.Core.List.{List, [], _∷_, _++_}
+use mathlib.Core.Logic.{_≢_}
+use Prim.Native.Nat.{ℕ, suc, _+_, _-_}
+use native.Mathlib.Omega.{arith}
+use native.Mathlib.Decide.{ℕ-discrete}
+use lib.ListN.{length, drop, length-append}
+use lib.Seq.{take-at}
+use Rattle.bisection.specs.Cells.{cellOf}
+use Rattle.bisection.specs.Codes.{codeOf, IsCodeOf}
+use Rattle.bisection.specs.Refusals.{codeRefusal}
+use Rattle.bisection.specs.Theorems.CodePaths.{one-path}
+use Rattle.codes.specs.declared.Written.{Written}
+use Rattle.codes.specs.declared.PathWritten.{PathWritten}
+use Rattle.codes.specs.Outcomes.{Writes, PathToCode, toPathRefusal, PathOf, CodeToPath, cellBytes, VerticesOf, Vertices, verticesRefusal, Child, ParentOf, Parent, parentRefusal}
+
+-- an outcome: the answer and the buffer at exit
+same-written : {r r' : Written} → r .refusal ≡ r' .refusal → r .length ≡ r' .length → r ≡ r'
+same-written p q = λ i. record { refusal = p i; length = q i }
+
+-- one number and one answer leave one outcome; where the number is a refusal, whatever the answer would be
+writes-determined : {refusal : ℕ} {answer answer' before after after' : List ℕ} {r r' : Written} → (refusal ≡ 0 → answer ≡ answer')
+    → Writes refusal answer before r after → Writes refusal answer' before r' after' → (r ≡ r') × (after ≡ after')
+writes-determined {refusal} {answer} {answer'} {before} {after} {after'} {r} {r'} same w w' = go (ℕ-discrete refusal 0)
+  where
+    go : Dec (refusal ≡ 0) → (r ≡ r') × (after ≡ after')
+    go (yes e) = (same-written (w .number ∙ sym (w' .number)) (w .written e .0 ∙ ap length (same e) ∙ sym (w' .written e .0)), w .written e .1 ∙ ap (λ (a : List ℕ). a ++ drop (length a) before) (same e) ∙ sym (w' .written e .1))
+    go (no e) = (same-written (w .number ∙ sym (w' .number)) (w .refused e .0 ∙ sym (w' .refused e .0)), w .refused e .1 ∙ sym (w' .refused e .1))
+
+pub code-check-determined : (code : List ℕ) {r r' : ℕ} → r ≡ codeRefusal code → r' ≡ codeRefusal code → r ≡ r'
+code-check-determined code e f = e ∙ sym f
+
+pub path-to-code-determined : (root path : List ℕ) {before after after' : List ℕ} {r r' : Written} → PathToCode root path before r after → PathToCode root path before r' after' → (r ≡ r') × (after ≡ after')
+path-to-code-determined root path = writes-determined (λ e. refl)
+
+pub child-determined : (code : List ℕ) (which : ℕ) {before after after' : List ℕ} {r r' : Written} → Child code which before r after → Child code which before r' after' → (r ≡ r') × (after ≡ after')
+child-determined code which = writes-determined (λ e. refl)
+
+vertices-one : {code a a' : List ℕ} → VerticesOf code a → VerticesOf code a' → a ≡ a'
+vertices-one v v' = v .is ∙ ap cellBytes (rw (p .0, p .1) refl) ∙ sym (v' .is)
+  where
+    p : (v .root ≡ v' .root) × (v .path ≡ v' .path)
+    p = one-path (v .code-of) (v' .code-of)
+
+pub vertices-determined : {code before after after' : List ℕ} {r r' : Written} → Vertices code before r after → Vertices code before r' after' → (r ≡ r') × (after ≡ after')
+vertices-determined v v' = writes-determined (λ e. vertices-one (v .vertices e) (v' .vertices e)) (v .writes) (v' .writes)
+
+-- a path is known by the path with one step more
+shorter : (p q : List ℕ) (x y : ℕ) → p ++ x ∷ [] ≡ q ++ y ∷ [] → p ≡ q
+shorter p q x y e = sym (take-at p (x ∷ []) (length p) refl) ∙ ap (lib.ListN.take (length p)) e ∙ ap (λ (n : ℕ). lib.ListN.take n (q ++ y ∷ [])) size ∙ take-at q (y ∷ []) (length q) refl
+  where
+    size : length p ≡ length q
+    size = omega (arith, simp length-append at (ap length e))
+
+parent-one : {code a a' : List ℕ} → ParentOf code a → ParentOf code a' → a ≡ a'
+parent-one v v' = v .is ∙ rw (p .0, shorter (v .path) (v' .path) (v .last) (v' .last) (p .1)) refl ∙ sym (v' .is)
+  where
+    p : (v .root ≡ v' .root) × (v .path ++ v .last ∷ [] ≡ v' .path ++ v' .last ∷ [])
+    p = one-path (v .code-of) (v' .code-of)
+
+pub parent-determined : {code before after after' : List ℕ} {r r' : Written} → Parent code before r after → Parent code before r' after' → (r ≡ r') × (after ≡ after')
+parent-determined v v' = writes-determined (λ e. parent-one (v .parent e) (v' .parent e)) (v .writes) (v' .writes)
+
+pub code-to-path-determined : {code roots paths root path root' path' : List ℕ} {r r' : PathWritten} → CodeToPath code roots paths r root path → CodeToPath code roots paths r' root' path'
+    → (r ≡ r') × (root ≡ root') × (path ≡ path')
+code-to-path-determined {code} {roots} {paths} {root} {path} {root'} {path'} {r} {r'} c c' = go (ℕ-discrete (toPathRefusal code (length roots) (length paths)) 0)
+  where
+    same : r .axes ≡ r' .axes → r .depth ≡ r' .depth → r ≡ r'
+    same a b = λ i. record { refusal = (c .number ∙ sym (c' .number)) i; axes = a i; depth = b i }
+    go : Dec (toPathRefusal code (length roots) (length paths) ≡ 0) → (r ≡ r') × (root ≡ root') × (path ≡ path')
+    go (yes e) = (same (w .axes ∙ ap length (p .0) ∙ sym (w' .axes)) (w .depth ∙ ap length (p .1) ∙ sym (w' .depth)),
+        w .root-written ∙ ap (λ (l : List ℕ). l ++ drop (length l) roots) (p .0) ∙ sym (w' .root-written),
+        w .path-written ∙ ap (λ (l : List ℕ). l ++ drop (length l) paths) (p .1) ∙ sym (w' .path-written))
+      where
+        w : PathOf code roots paths r root path
+        w = c .written e
+        w' : PathOf code roots paths r' root' path'
+        w' = c' .written e
+        p : (w .root ≡ w' .root) × (w .path ≡ w' .path)
+        p = one-path (w .code-of) (w' .code-of)
+    go (no e) = (same (c .refused e .0 ∙ sym (c' .refused e .0)) (c .refused e .1 ∙ sym (c' .refused e .1)), c .refused e .2 ∙ sym (c' .refused e .2), c .refused e .3 ∙ sym (c' .refused e .3))

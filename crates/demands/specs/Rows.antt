@@ -1,0 +1,31 @@
+-- What a row of worked cells says. A row is an entry, its input and its outcome; it holds where the entry's contract
+-- allows that outcome, for every lent buffer with room. By the theorem that two outcomes of a contract are equal,
+-- the entry then has no other.
+use mathlib.Core.Path.{_≡_}
+use mathlib.Core.List.{List, [], _∷_, _++_}
+use Prim.Native.Nat.{ℕ, _≤_}
+use lib.ListN.{length, drop}
+use Rattle.bisection.specs.Cells.{Cell}
+use Rattle.bisection.specs.Refusals.{done, codeRefusal}
+use Rattle.codes.specs.declared.Written.{Written}
+use Rattle.codes.specs.Outcomes.{PathToCode, cellBytes, Vertices, Child}
+
+pub data Row : Type 0 where
+  path-to-code : (root path code : List ℕ) → Row
+  vertices : (code : List ℕ) (cell : Cell) → Row
+  code-check : (code : List ℕ) (refusal : ℕ) → Row
+  child-of : (code : List ℕ) (which : ℕ) (answer : List ℕ) → Row
+
+-- the answer stands at the front of every buffer with room for it, and the other cells keep their content
+unfoldable pub Answers : (List ℕ → Written → List ℕ → Type 0) → List ℕ → Type 0
+Answers contract answer = (before : List ℕ) → length answer ≤ length before → contract before (record { refusal = done; length = length answer }) (answer ++ drop (length answer) before)
+
+unfoldable pub Holds : Row → Type 0
+Holds (path-to-code root path code) = Answers (PathToCode root path) code
+Holds (vertices code cell) = Answers (Vertices code) (cellBytes cell)
+Holds (code-check code refusal) = refusal ≡ codeRefusal code
+Holds (child-of code which answer) = Answers (Child code which) answer
+
+unfoldable pub Every : List Row → Type 0
+Every [] = Unit {0}
+Every (row ∷ rows) = Holds row × Every rows
