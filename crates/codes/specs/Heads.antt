@@ -11,8 +11,8 @@ use lib.Pow.{pow-pos}
 use native.Mathlib.Nat.{div-eq-of-lt, div-add-mod', mod-lt}
 use native.Mathlib.Decide.{decLt}
 use borrow.Author.Tests.{lt-leb, le-leb, le-ltb, lt-ltb, eq-eqb, ne-eqb, leb-true}
-use Rattle.dimension.specs.Sizes.{isDimension, greatestDepth, codeLength, splitPlace, boxDepth}
-use Rattle.dimension.specs.Laws.{Dimension, dimension, split-range}
+use Rattle.dimension.specs.Sizes.{isDimension, halvings, greatestDepth, codeLength, splitPlace, boxDepth}
+use Rattle.dimension.specs.Laws.{Dimension, dimension, split-range, box-in}
 use Rattle.bisection.specs.Codes.{axis, dimensionOf, depthOf, entriesOf, orthantsOf}
 use Rattle.bisection.specs.Refusals.{done, refusedDimension, refusedDepth, refusedLength, refusedPermutation, refusedOrthant, refusedSign, fresh, permutes, orthantsFit, signsOwn, need, _then_, headRefusal, bodyRefusal, codeRefusal}
 use Rattle.bisection.specs.Theorems.Checked.{then-done, need-done, each-at, both}
@@ -89,6 +89,10 @@ module _ {code : List ℕ} (b : BodyReady code) where
   pub ready-room : 2 + dimensionOf code ≤ length code
   unfolding codeLength
   ready-room = omega (arith, b .size)
+
+  pub ready-few : length code ≤ 2 + dimensionOf code + halvings
+  unfolding codeLength
+  ready-few = omega (arith, b .size, box-in (dimensionOf code) (depthOf code) (omega (arith, ready-range .two)) ready-depth)
 
 -- the body's refusals: n is the dimension and k the split place as the code has them
 module _ (code : List ℕ) (n : ℕ) (e : n ≡ dimensionOf code) where

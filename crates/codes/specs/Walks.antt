@@ -8,7 +8,7 @@ use native.Mathlib.Numerals.{add-one}
 use native.Mathlib.Decide.{ℕ-discrete, decLt}
 use lib.Dec.{T, eqb, leb, ltb}
 use lib.Bits.{bitOr, bitAnd, or-lt, or-add-and, and-le-l, and-le-r}
-use lib.ListN.{length, getD, take, drop, length-drop, drop-of-length-le}
+use lib.ListN.{length, getD, take, drop, length-drop, drop-of-length-le, List·getD-eq-default}
 use lib.Pow.{pow-pos}
 use lib.Seq.{getD-drop, getD-take, drop-cons}
 use borrow.Author.Tests.{lt-ltb, le-ltb, lt-leb, le-leb, eq-eqb, ne-eqb, ltb-true}
@@ -113,6 +113,16 @@ pub joined-end : (any : ℕ) (l : List ℕ) (i : ℕ) → length l ≤ i → joi
 unfolding joined
 joined-end any l i h = rw (drop-of-length-le l h) refl
 
+-- a read past the end joins nothing
+pub joined-on : (any : ℕ) (l : List ℕ) (i : ℕ) → joined any (drop i l) ≡ joined (bitOr any (getD l i 0)) (drop (i + 1) l)
+joined-on any l i = go (decLt i (length l))
+  where
+    none : bitOr any 0 ≡ any
+    none = omega (arith, or-add-and any 0, and-le-r any 0)
+    go : Dec (i < length l) → joined any (drop i l) ≡ joined (bitOr any (getD l i 0)) (drop (i + 1) l)
+    go (yes h) = joined-next any l i h
+    go (no h) = joined-end any l i (omega arith) ∙ sym (joined-end (bitOr any (getD l i 0)) l (i + 1) (omega arith) ∙ ap (bitOr any) (List·getD-eq-default l 0 (omega arith)) ∙ none)
+
 pub joined-fits : (d any : ℕ) (os : List ℕ) → any < 2 ^ d → ((i : ℕ) → i < length os → getD os i 0 < 2 ^ d) → joined any os < 2 ^ d
 unfolding joined
 joined-fits d any [] h f = h
@@ -201,6 +211,45 @@ module _ {es : List ℕ} {own i : ℕ} (s : SignsSoFar es own i) where
   pub signs-all : {k : ℕ} → i ≤ k → k ≤ i → true ≡ signsBy k es own
   unfolding signsBy
   signs-all {k} l u = sym (subst (λ (n : ℕ). each n (signTest es own) ≡ true) (omega arith) (s .so-far))
+
+-- the place of a read that takes no branch: i, or the first
+abbrev pub placeIn : ℕ → ℕ → ℕ
+placeIn i n = cond (ltb i n) i 0
+
+pub place-under : (i n : ℕ) → i < n → placeIn i n ≡ i
+place-under i n h = rw (lt-ltb i n h) refl
+
+pub place-past : (i n : ℕ) → n ≤ i → placeIn i n ≡ 0
+place-past i n h = rw (le-ltb i n h) refl
+
+pub place-within : (i n : ℕ) → 0 < n → placeIn i n < n
+place-within i n p = go (decLt i n)
+  where
+    go : Dec (i < n) → placeIn i n < n
+    go (yes h) = subst (λ (m : ℕ). m < n) (sym (place-under i n h)) h
+    go (no h) = subst (λ (m : ℕ). m < n) (sym (place-past i n (omega arith))) p
+
+-- the walk over a fixed number of places: of those before i, the ones under k carry the own sign
+pub record SignsUpTo (es : List ℕ) (own k i : ℕ) : Type 0 where
+  pub up-to : (n : ℕ) → n ≤ i → n ≤ k → SignsSoFar es own n
+
+pub up-to-none : (es : List ℕ) (own k : ℕ) → SignsUpTo es own k 0
+up-to-none es own k = record { up-to = λ n l m. subst (SignsSoFar es own) (omega arith) (signs-none es own) }
+
+module _ {es : List ℕ} {own k i : ℕ} (u : SignsUpTo es own k i) where
+  pub up-to-next : signTest es own (placeIn i k) ≡ true → SignsUpTo es own k (i + 1)
+  up-to-next e = record { up-to = λ n l m. go n l m (decLt i n) }
+    where
+      go : (n : ℕ) → n ≤ i + 1 → n ≤ k → Dec (i < n) → SignsSoFar es own n
+      go n l m (no h) = u .up-to n (omega arith) m
+      go n l m (yes h) = subst (SignsSoFar es own) (omega arith) (signs-next (u .up-to i (omega arith) (omega arith)) (ap (signTest es own) (sym (place-under i k (omega arith))) ∙ e))
+
+  pub up-to-all : k ≤ i → true ≡ signsBy k es own
+  up-to-all l = signs-all (u .up-to k l (omega arith)) (omega arith) (omega arith)
+
+pub up-to-fail : (es : List ℕ) (own k i : ℕ) → 0 < k → signTest es own (placeIn i k) ≡ false → false ≡ signsBy k es own
+unfolding signsBy
+up-to-fail es own k i p h = sym (each-fails k (signTest es own) (placeIn i k) (place-within i k p) h)
 
 -- one sign test, as the code branches
 pub same-minus : (m h : Bool) → m ≡ true → h ≡ sameSign m h

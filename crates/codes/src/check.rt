@@ -2,6 +2,9 @@
 ghost use mathlib.Core.Path.{_≡_};
 ghost use Prim.Native.Nat.{_+_, _-_, _≤_, _<_};
 ghost use lib.ListN.{length, getD, drop};
+ghost use mathlib.Core.Bool.{cond};
+ghost use lib.Dec.{ltb};
+ghost use Rattle.dimension.specs.Sizes.{halvings};
 ghost use Rattle.bisection.specs.Codes.{axis, minus, high};
 ghost use Rattle.bisection.specs.Refusals.{permutes, sameSign};
 ghost use Rattle.codes.specs.Outcomes.{isRoot, isPath};
@@ -9,6 +12,7 @@ ghost use Rattle.codes.specs.Walks.{joined, ownByte, signsBy, AxesWithin
 
 
 use crate::entries;
+use dimension::Dim;
 
 // The d bytes from `at` on have the axes 1..d, none repeated.
 pub fn permuted(s: &[u8], at: usize, d: usize) -> bool
@@ -34,15 +38,38 @@ pub fn permuted(s: &[u8], at: usize, d: usize) -> bool
     true
 }
 
-// The bytes from `at` on, or-ed: a bit is set that is set in any of them.
+// The place, or the first one where there are no more than n: a read that takes no branch.
+pub fn place_in(i: usize, n: usize) -> usize
+    ensures { λ r. ⌜ r ≡ cond (ltb i n) i 0 ⌝ }
+{
+    if i < n {
+        return i;
+    }
+    0
+}
+
+// The byte at a place, 0 past the end.
+pub fn byte_at(s: &[u8], i: usize) -> u8
+    requires { ⌜ 0 < length (now s) ⌝ }
+    ensures { λ r. ⌜ r ≡ getD (now (s .entry)) i 0 ⌝ }
+{
+    let x = s[place_in(i, s.len())];
+    if i < s.len() {
+        return x;
+    }
+    0
+}
+
+// The bytes from `at` on, or-ed: a bit is set that is set in any of them. There are no more of them than halvings, and the
+// walk has that length for every code: a loop whose end is not foreseen costs more than its steps.
 pub fn any_bit(s: &[u8], at: usize) -> u8
-    requires { ⌜ at ≤ length (now s) ⌝ }
+    requires { ⌜ (0 < length (now s)) × (at ≤ 8) × (length (now s) ≤ at + halvings) ⌝ }
     ensures { λ r. ⌜ r ≡ joined 0 (drop at (now (s .entry))) ⌝ }
 {
     let mut any: u8 = 0;
-    let mut i: usize = at;
-    while i < s.len() {
-        any = any | s[i];
+    let mut i: usize = 0;
+    while i < Dim::HALVINGS {
+        any = any | byte_at(s, at + i);
         i += 1;
     }
     any
@@ -72,14 +99,16 @@ pub fn same_sign(e: u8, own: u8) -> bool
     !high
 }
 
-// The first k entries carry the own sign that the orthant byte gives: the sign test, entry by entry.
+// The first k entries carry the own sign that the orthant byte gives: the sign test, entry by entry. Where there are fewer
+// than the most axes it tests the first one again, so that the walk has one length.
 pub fn signs_by(code: &[u8], k: usize, own: u8) -> bool
-    requires { ⌜ (2 + k ≤ length (now code)) × AxesWithin k (now code) ⌝ }
+    requires { ⌜ (1 ≤ k) × (k ≤ 4) × (2 + k ≤ length (now code)) × AxesWithin k (now code) ⌝ }
     ensures { λ r. ⌜ r ≡ signsBy k (drop 2 (now (code .entry))) own ⌝ }
 {
     let mut i: usize = 0;
-    while i < k {
-        if !same_sign(code[2 + i], own) {
+    while i < Dim::MOST_AXES {
+        let j = place_in(i, k);
+        if !same_sign(code[2 + j], own) {
             return false;
         }
         i += 1;

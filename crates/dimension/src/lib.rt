@@ -25,6 +25,8 @@ impl Dim {
     pub const HALVINGS: usize = 12;
     // The cube is 0 to CUBE_SIDE on each axis: two to the power HALVINGS.
     pub const CUBE_SIDE: u16 = 4096;
+    // The most axes that a dimension has.
+    pub const MOST_AXES: usize = 4;
 
     // The dimension of so many axes, if it is built.
     pub fn of(axes: usize) -> Known

@@ -6,7 +6,7 @@ use borrow.Author.Tests.{not-true, not-false}
 use Rattle.dimension.specs.Sizes.{splitPlace}
 use Rattle.dimension.specs.Laws.{split-range}
 use Rattle.bisection.specs.Codes.{dimensionOf, depthOf}
-use Rattle.codes.specs.Heads.{ready-dimension, ready-range, ready-room, body-4, body-5, body-6, body-0, axes-within}
+use Rattle.codes.specs.Heads.{ready-dimension, ready-range, ready-room, ready-few, body-4, body-5, body-6, body-0, axes-within}
 use borrow.Author.Needs.{needs}
 use Rattle.codes.proofs.code_body.Statement.{statement}
 use Rattle.codes.proofs.code_body.Tie as tie
@@ -35,7 +35,7 @@ add-any-bit c = omega (arith, c .before .before .axes .ensures ∙ c .before .be
 
 any-bit-requires : tie.Need-any-bit-requires
 unfolding dimensionOf
-any-bit-requires c κs = omega (arith, c .before .before .axes .ensures ∙ c .before .before .before .checked .ensures, ready-range (c .before .before .before .before .before .before .pre) .few, ready-room (c .before .before .before .before .before .before .pre))
+any-bit-requires c κs = omega (arith, c .before .before .axes .ensures ∙ c .before .before .before .checked .ensures, ready-range (c .before .before .before .before .before .before .pre) .few, ready-room (c .before .before .before .before .before .before .pre), ready-few (c .before .before .before .before .before .before .pre))
 
 cast-if2 : tie.Need-cast-if2
 unfolding dimensionOf
@@ -66,9 +66,10 @@ signs-by-requires : tie.Need-signs-by-requires
 unfolding dimensionOf depthOf
 signs-by-requires c κs =
     let n : c .before .before .before .before .before .before .before .before .axes .result ≡ dimensionOf (c .before .before .before .before .before .before .before .before .before .before .before .before .args .code .now) = (c .before .before .before .before .before .before .before .before .axes .ensures ∙ c .before .before .before .before .before .before .before .before .before .checked .ensures) in
-    let k = split-range (c .before .before .before .before .before .before .before .before .axes .result) (c .before .before .size .result) (omega (arith, n, ready-range (c .before .before .before .before .before .before .before .before .before .before .before .before .pre) .two)) .1 in
-    let l : c .before .split-place .result ≤ c .before .before .before .before .before .before .before .before .axes .result = omega (arith, k, c .before .split-place .ensures ∙ ap (λ (d : ℕ). splitPlace d (c .before .before .size .result)) (sym (c .before .before .before .before .before .before .before .before .axes .ensures))) in
-    (omega (arith, l, n, ready-room (c .before .before .before .before .before .before .before .before .before .before .before .before .pre)), axes-within (c .before .before .before .before .before .before .before .before .before .before .before .before .args .code .now) _ n (sym (c .before .before .before .before .before .before .before .permuted .ensures) ∙ not-false _ (c .before .before .before .before .before .before .if1 .left)) (omega (arith, n, ready-range (c .before .before .before .before .before .before .before .before .before .before .before .before .pre) .few)) _ l)
+    let k = split-range (c .before .before .before .before .before .before .before .before .axes .result) (c .before .before .size .result) (omega (arith, n, ready-range (c .before .before .before .before .before .before .before .before .before .before .before .before .pre) .two)) in
+    let e : c .before .split-place .result ≡ splitPlace (c .before .before .before .before .before .before .before .before .axes .result) (c .before .before .size .result) = c .before .split-place .ensures ∙ ap (λ (d : ℕ). splitPlace d (c .before .before .size .result)) (sym (c .before .before .before .before .before .before .before .before .axes .ensures)) in
+    let l : c .before .split-place .result ≤ c .before .before .before .before .before .before .before .before .axes .result = omega (arith, k .1, e) in
+    (omega (arith, k .0, e), omega (arith, l, n, ready-range (c .before .before .before .before .before .before .before .before .before .before .before .before .pre) .few), omega (arith, l, n, ready-room (c .before .before .before .before .before .before .before .before .before .before .before .before .pre)), axes-within (c .before .before .before .before .before .before .before .before .before .before .before .before .args .code .now) _ n (sym (c .before .before .before .before .before .before .before .permuted .ensures) ∙ not-false _ (c .before .before .before .before .before .before .if1 .left)) (omega (arith, n, ready-range (c .before .before .before .before .before .before .before .before .before .before .before .before .pre) .few)) _ l)
 
 returns-3 : tie.Need-returns-3
 unfolding dimensionOf depthOf
