@@ -1,5 +1,7 @@
 // One step of the bisection on a code that stands in a lent buffer, entries from place 2 on, and one step back.
 ghost use mathlib.Core.Path.{_≡_};
+ghost use mathlib.Core.Bool.{cond};
+ghost use lib.Dec.{eqb};
 ghost use Prim.Native.Nat.{suc, _+_, _-_, _≤_, _<_};
 ghost use lib.ListN.{length, getD, take, drop};
 ghost use Rattle.dimension.specs.Sizes.{axesOf, codeLength, splitPlace, boxDepth};
@@ -18,23 +20,22 @@ use crate::check;
 use dimension::Dim;
 
 // The entries after the step: child 1 turns the first k of them.
-pub fn turn_step(buf: &mut [u8], dim: Dim, depth: usize, which: u8)
-    requires { ⌜ (2 + axesOf dim ≤ length (now buf)) × Signed (axesOf dim) (take (axesOf dim) (drop 2 (now buf))) ⌝ }
-    ensures { λ r. ⌜ now (buf .exit) ≡ atPlace 2 (stepped which (splitPlace (axesOf dim) depth)) (now (buf .entry)) ⌝ }
+pub fn turn_step(buf: &mut [u8], k: usize, which: u8)
+    requires { ⌜ (1 ≤ k) × (1 + k < length (now buf)) × (1 ≤ axis (getD (now buf) 2 0)) ⌝ }
+    ensures { λ r. ⌜ now (buf .exit) ≡ atPlace 2 (stepped which k) (now (buf .entry)) ⌝ }
 {
     if which == 0 {
         return;
     }
-    let k = dim.split_place(depth);
     buffers::turn(buf, 2, k - 1);
 }
 
 // The orthant after the step: one is appended when the new level is 0, that is when k was 1.
-pub fn box_step(buf: &mut [u8], dim: Dim, depth: usize)
-    requires { ⌜ (codeLength (axesOf dim) (suc depth) ≤ length (now buf)) × Signed (axesOf dim) (take (axesOf dim) (drop 2 (now buf))) ⌝ }
+pub fn box_step(buf: &mut [u8], dim: Dim, depth: usize, k: usize)
+    requires { ⌜ (codeLength (axesOf dim) (suc depth) ≤ length (now buf)) × Signed (axesOf dim) (take (axesOf dim) (drop 2 (now buf))) × (k ≡ splitPlace (axesOf dim) depth) ⌝ }
     ensures { λ r. ⌜ now (buf .exit) ≡ boxed (axesOf dim) depth (now (buf .entry)) ⌝ }
 {
-    if dim.split_place(depth) != 1 {
+    if k != 1 {
         return;
     }
     let d = dim.axes();
@@ -43,13 +44,24 @@ pub fn box_step(buf: &mut [u8], dim: Dim, depth: usize)
     buf[at] = orthant;
 }
 
-// The step from a depth: entries, then the orthant that they give.
-pub fn step_in(buf: &mut [u8], dim: Dim, depth: usize, which: u8)
-    requires { ⌜ (codeLength (axesOf dim) (suc depth) ≤ length (now buf)) × Passes (axesOf dim) depth (nameIn (axesOf dim) depth (now buf)) ⌝ }
+// The step from a depth, whose split place is k: entries, then the orthant that they give.
+pub fn step_in(buf: &mut [u8], dim: Dim, depth: usize, k: usize, which: u8)
+    requires { ⌜ (codeLength (axesOf dim) (suc depth) ≤ length (now buf)) × Passes (axesOf dim) depth (nameIn (axesOf dim) depth (now buf)) × (k ≡ splitPlace (axesOf dim) depth) ⌝ }
     ensures { λ r. ⌜ StepsTo (axesOf dim) depth which (now (buf .entry)) (now (buf .exit)) ⌝ }
 {
-    turn_step(buf, dim, depth, which);
-    box_step(buf, dim, depth);
+    turn_step(buf, k, which);
+    box_step(buf, dim, depth, k);
+}
+
+// The split place one step deeper.
+pub fn place_after(d: usize, k: usize) -> usize
+    requires { ⌜ 1 ≤ k ⌝ }
+    ensures { λ r. ⌜ r ≡ cond (eqb k 1) d (k - 1) ⌝ }
+{
+    if k == 1 {
+        return d;
+    }
+    k - 1
 }
 
 // Takes back the last step of the entries from `at` on: entry n tells it by its sign against the parent's box.
@@ -84,7 +96,7 @@ pub fn write_child(code: &[u8], dim: Dim, depth: usize, which: u8, out: &mut [u8
 {
     buffers::copy(code, 0, code.len(), out, 0);
     out[1] = code[1] + 1;
-    step_in(out, dim, depth, which);
+    step_in(out, dim, depth, dim.split_place(depth), which);
 }
 
 // Writes the parent's code, at the depth given: the front of the code with the last step taken back.

@@ -19,9 +19,12 @@ pub fn walk_down(dim: Dim, path: &[u8], code: &mut [u8])
     requires { ⌜ (codeLength (axesOf dim) (length (now path)) ≤ length (now code)) × Passes (axesOf dim) 0 (nameIn (axesOf dim) 0 (now code)) ⌝ }
     ensures { λ r. ⌜ WalksTo (axesOf dim) (now (path .entry)) (length (now (path .entry))) (now (code .entry)) (now (code .exit)) ⌝ }
 {
+    let d = dim.axes();
+    let mut k = d;
     let mut t: usize = 0;
     while t < path.len() {
-        steps::step_in(code, dim, t, path[t]);
+        steps::step_in(code, dim, t, k, path[t]);
+        k = steps::place_after(d, k);
         t += 1;
     }
 }

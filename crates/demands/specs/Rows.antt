@@ -6,15 +6,19 @@ use mathlib.Core.List.{List, [], _∷_, _++_}
 use Prim.Native.Nat.{ℕ, _≤_}
 use lib.ListN.{length, drop}
 use Rattle.bisection.specs.Cells.{Cell}
-use Rattle.bisection.specs.Refusals.{done, codeRefusal}
+use Rattle.bisection.specs.Refusals.{done, refusedFace, codeRefusal}
 use Rattle.codes.specs.declared.Written.{Written}
 use Rattle.codes.specs.Outcomes.{PathToCode, cellBytes, Vertices, Child}
+use Rattle.crossing.specs.Outcome.{Crosses}
 
 pub data Row : Type 0 where
   path-to-code : (root path code : List ℕ) → Row
   vertices : (code : List ℕ) (cell : Cell) → Row
   code-check : (code : List ℕ) (refusal : ℕ) → Row
   child-of : (code : List ℕ) (which : ℕ) (answer : List ℕ) → Row
+  cross : (code : List ℕ) (facet : ℕ) (answer : List ℕ) (place : ℕ) → Row
+  -- refusal 8
+  walled : (code : List ℕ) (facet : ℕ) → Row
 
 -- the answer stands at the front of every buffer with room for it, and the other cells keep their content
 unfoldable pub Answers : (List ℕ → Written → List ℕ → Type 0) → List ℕ → Type 0
@@ -25,6 +29,9 @@ Holds (path-to-code root path code) = Answers (PathToCode root path) code
 Holds (vertices code cell) = Answers (Vertices code) (cellBytes cell)
 Holds (code-check code refusal) = refusal ≡ codeRefusal code
 Holds (child-of code which answer) = Answers (Child code which) answer
+Holds (cross code facet answer place) = (before : List ℕ) → length answer ≤ length before
+    → Crosses code facet before (record { refusal = done; place = place; length = length answer }) (answer ++ drop (length answer) before)
+Holds (walled code facet) = (before : List ℕ) → Crosses code facet before (record { refusal = refusedFace; place = 0; length = 0 }) before
 
 unfoldable pub Every : List Row → Type 0
 Every [] = Unit {0}

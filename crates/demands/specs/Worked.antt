@@ -9,9 +9,10 @@ use Rattle.bisection.specs.Theorems.CodePaths.{rootOf, pathOf}
 use Rattle.bisection.specs.Theorems.Paths.{rootTo, pathTo}
 use Rattle.bisection.specs.Theorems.Passing.{parentName, lastStep, unstepped, fewer}
 use Rattle.bisection.specs.Theorems.Entries.{unturned}
+use Rattle.bisection.specs.Theorems.Table.{move, newAt, exchanged, negatedAt, entriesBy, flipped, runsOut, carried, orthantsBy, blockedBy, nextOwn, moveOf, blocked, acrossName, newPlace}
 use Rattle.codes.specs.Outcomes.{isRoot, isPath, pointBytes, cellBytes, cellLength}
-use Rattle.demands.specs.Rows.{Row, path-to-code, vertices, code-check, child-of, Every}
-use Rattle.demands.specs.Shown.{Shown, PathShown, CellShown, ChildShown, EveryShown, every}
+use Rattle.demands.specs.Rows.{Row, path-to-code, vertices, code-check, child-of, cross, walled, Every}
+use Rattle.demands.specs.Shown.{Shown, PathShown, CellShown, ChildShown, CrossShown, WallShown, EveryShown, every}
 
 unfoldable pub table : List Row
 table =
@@ -29,6 +30,17 @@ table =
     vertices (0x02 ∷ 0x04 ∷ 0x01 ∷ 0x02 ∷ 0x01 ∷ 0x00 ∷ []) ((2048 ∷ 0 ∷ []) ∷ (3072 ∷ 0 ∷ []) ∷ (3072 ∷ 1024 ∷ []) ∷ []) ∷
     -- P5
     path-to-code (1 ∷ 2 ∷ 3 ∷ []) (1 ∷ []) (0x03 ∷ 0x01 ∷ 0x02 ∷ 0x03 ∷ 0x81 ∷ []) ∷
+    -- P6
+    cross (0x02 ∷ 0x00 ∷ 0x01 ∷ 0x02 ∷ []) 1 (0x02 ∷ 0x00 ∷ 0x02 ∷ 0x01 ∷ []) 1 ∷
+    walled (0x02 ∷ 0x00 ∷ 0x01 ∷ 0x02 ∷ []) 0 ∷
+    walled (0x02 ∷ 0x00 ∷ 0x01 ∷ 0x02 ∷ []) 2 ∷
+    -- P7
+    cross (0x02 ∷ 0x01 ∷ 0x01 ∷ 0x02 ∷ []) 0 (0x02 ∷ 0x01 ∷ 0x02 ∷ 0x81 ∷ []) 1 ∷
+    cross (0x02 ∷ 0x01 ∷ 0x02 ∷ 0x81 ∷ []) 1 (0x02 ∷ 0x01 ∷ 0x01 ∷ 0x02 ∷ []) 0 ∷
+    -- P8
+    cross (0x02 ∷ 0x02 ∷ 0x81 ∷ 0x02 ∷ 0x01 ∷ []) 0 (0x02 ∷ 0x02 ∷ 0x01 ∷ 0x02 ∷ 0x00 ∷ []) 0 ∷
+    cross (0x02 ∷ 0x02 ∷ 0x81 ∷ 0x02 ∷ 0x01 ∷ []) 1 (0x02 ∷ 0x02 ∷ 0x02 ∷ 0x81 ∷ 0x01 ∷ []) 1 ∷
+    walled (0x02 ∷ 0x02 ∷ 0x81 ∷ 0x02 ∷ 0x01 ∷ []) 2 ∷
     -- P9
     code-check (0x02 ∷ 0x01 ∷ 0x81 ∷ 0x02 ∷ []) refusedSign ∷
     code-check (0x02 ∷ 0x00 ∷ 0x01 ∷ 0x82 ∷ []) refusedSign ∷
@@ -38,5 +50,5 @@ table =
 
 -- the claim
 pub worked : Every table
-unfolding EveryShown Shown table codeOf bytes nameOf nameBelow step stepped turned negated minus axis orthant orthantTo minusOn high level splitPlace boxDepth codeLength cellOf cellBelow rootCell corners moved child midpoint cubeSide halvings greatestDepth isDimension childCode codeRefusal headRefusal bodyRefusal need _then_ each fresh permutes orthantsFit ownMinus signsOwn dimensionOf depthOf entriesOf orthantsOf partsOf isRoot isPath pointBytes cellBytes cellLength rootOf pathOf rootTo pathTo parentName lastStep unturned unstepped fewer
-worked = every table (record { dimension = refl; depth = refl; good = refl; steps = refl; is = refl }, (record { passes = refl; is = refl; size = refl }, (record { dimension = refl; depth = refl; good = refl; steps = refl; is = refl }, (record { passes = refl; is = refl; size = refl }, (record { dimension = refl; depth = refl; good = refl; steps = refl; is = refl }, (record { passes = refl; is = refl; size = refl }, (record { dimension = refl; depth = refl; good = refl; steps = refl; is = refl }, (record { passes = refl; is = refl; size = refl }, (record { dimension = refl; depth = refl; good = refl; steps = refl; is = refl }, (refl, (refl, (refl, (record { passes = refl; step = refl; deeper = refl; is = refl }, tt)))))))))))))
+unfolding EveryShown Shown table codeOf bytes nameOf nameBelow step stepped turned negated minus axis orthant orthantTo minusOn high level splitPlace boxDepth codeLength cellOf cellBelow rootCell corners moved child midpoint cubeSide halvings greatestDepth isDimension childCode codeRefusal headRefusal bodyRefusal need _then_ each fresh permutes orthantsFit ownMinus signsOwn dimensionOf depthOf entriesOf orthantsOf partsOf isRoot isPath pointBytes cellBytes cellLength rootOf pathOf rootTo pathTo parentName lastStep unturned unstepped fewer move newAt exchanged negatedAt entriesBy flipped runsOut carried orthantsBy blockedBy nextOwn moveOf blocked acrossName newPlace
+worked = every table (record { dimension = refl; depth = refl; good = refl; steps = refl; is = refl }, (record { passes = refl; is = refl; size = refl }, (record { dimension = refl; depth = refl; good = refl; steps = refl; is = refl }, (record { passes = refl; is = refl; size = refl }, (record { dimension = refl; depth = refl; good = refl; steps = refl; is = refl }, (record { passes = refl; is = refl; size = refl }, (record { dimension = refl; depth = refl; good = refl; steps = refl; is = refl }, (record { passes = refl; is = refl; size = refl }, (record { dimension = refl; depth = refl; good = refl; steps = refl; is = refl }, (record { passes = refl; facet = refl; free = refl; is = refl; at = refl }, (record { passes = refl; facet = refl; blocked = refl }, (record { passes = refl; facet = refl; blocked = refl }, (record { passes = refl; facet = refl; free = refl; is = refl; at = refl }, (record { passes = refl; facet = refl; free = refl; is = refl; at = refl }, (record { passes = refl; facet = refl; free = refl; is = refl; at = refl }, (record { passes = refl; facet = refl; free = refl; is = refl; at = refl }, (record { passes = refl; facet = refl; blocked = refl }, (refl, (refl, (refl, (record { passes = refl; step = refl; deeper = refl; is = refl }, tt)))))))))))))))))))))

@@ -1,6 +1,6 @@
 -- The laws of the sizes.
 use mathlib.Core.Path.{_≡_, refl, sym, ap, _∙_, subst}
-use mathlib.Core.Bool.{Bool, true, false, _||_}
+use mathlib.Core.Bool.{Bool, true, false, cond, _||_}
 use mathlib.Core.Logic.{_⊎_, inl, inr}
 use Prim.Native.Nat.{ℕ, zero, suc, _+_, _*_, _/_, _%_, _-_, _^_, _≤_, _<_}
 use native.Mathlib.Omega.{arith}
@@ -9,7 +9,7 @@ use native.Mathlib.Decide.{decLt, ℕ-discrete}
 use lib.Arith.{digits-div, digits-mod}
 use lib.Pow.{pow-add, pow-pos, pow-lt}
 use lib.Dec.{T, eqb, eqb·suc-zero, lit<, lit≤}
-use borrow.Author.Tests.{ne-eqb}
+use borrow.Author.Tests.{eq-eqb, ne-eqb}
 use Rattle.dimension.specs.declared.Dim.{Dim}
 use Rattle.dimension.specs.declared.Dim.the-variants.{Two, Three, Four}
 use Rattle.dimension.specs.Sizes.{isDimension, axesOf, halvings, cubeSide, greatestDepth, boxDepth, level, splitPlace, sideAfter, boxSide, codeLength, longestCode, rootCount}
@@ -174,6 +174,14 @@ deeper d D d0 = go (decLt (suc (D % d)) d)
         up = omega (arith, more, mod-lt D d0)
         l : suc D % d ≡ 0
         l = rw (← up) (digits-mod (suc (D / d)) d0)
+
+-- the split place one step deeper, from this one
+pub split-after : (d D k : ℕ) → 0 < d → k ≡ splitPlace d D → cond (eqb k 1) d (k - 1) ≡ splitPlace d (suc D)
+split-after d D k d0 e = go (deeper d D d0)
+  where
+    go : Within d D ⊎ Turned d D → cond (eqb k 1) d (k - 1) ≡ splitPlace d (suc D)
+    go (inl w) = rw (ne-eqb k 1 (λ q. absurd (omega (arith, w .room)))) (omega (arith, w .split))
+    go (inr t) = rw (eq-eqb k 1 (e ∙ t .last)) (sym (t .split))
 
 pub div-le : (n d : ℕ) → 2 ≤ d → n / d ≤ n / 2
 div-le n d h = le-div-iff-mul-le {k = 2} {x = n / d} {y = n} (omega arith) .1 (omega (arith, mul-le-mul-left (n / d) h, div-mul-le-self n d))

@@ -3,9 +3,11 @@
 ghost use mathlib.Core.Path.{_≡_};
 ghost use Rattle.bisection.specs.Refusals.{codeRefusal};
 ghost use Rattle.codes.specs.Outcomes.{PathToCode, CodeToPath, Vertices, Child, Parent};
+ghost use Rattle.crossing.specs.Outcome.{Crosses};
 
 use codes::PathWritten;
 use codes::Written;
+use crossing::Crossed;
 
 #[no_mangle]
 pub extern "C" fn rmk_code_check(code: &[u8]) -> u8
@@ -47,4 +49,11 @@ pub extern "C" fn rmk_parent(code: &[u8], out: &mut [u8]) -> Written
     ensures { λ r. ⌜ Parent (now (code .entry)) (now (out .entry)) r (now (out .exit)) ⌝ }
 {
     codes::parent(code, out)
+}
+
+#[no_mangle]
+pub extern "C" fn rmk_cross(code: &[u8], facet: u8, out: &mut [u8]) -> Crossed
+    ensures { λ r. ⌜ Crosses (now (code .entry)) facet (now (out .entry)) r (now (out .exit)) ⌝ }
+{
+    crossing::cross(code, facet, out)
 }

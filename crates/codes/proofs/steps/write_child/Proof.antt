@@ -20,14 +20,17 @@ add-out c = record { fits = child-byte (c .before .before .before .before .befor
 slice-write-out : tie.Need-slice-write-out
 slice-write-out c = omega (arith, ap length (c .before .before .before .copy .ensures), child-copied (c .before .before .before .before .before .before .before .pre), child-two (c .before .before .before .before .before .before .before .pre), child-fits (c .before .before .before .before .before .before .before .pre))
 
+split-place-requires : tie.Need-split-place-requires
+split-place-requires c κs = search needs
+
 step-in-requires : tie.Need-step-in-requires
-step-in-requires c κs = rw (c .before .before .before .before .copy .ensures) (child-ready (c .before .before .before .before .before .before .before .before .pre) _)
+step-in-requires c κs = let r = child-ready (c .before .before .before .before .before .before .before .before .before .pre) _ in rw (c .before .before .before .before .before .copy .ensures) (r .0, r .1, c .split-place .ensures)
 
 same-length : tie.Need-same-length
-same-length c = c .before .before .step-in .ensures .size ∙ (simp length-set (ap length (c .before .before .before .before .before .before .before .copy .ensures) ∙ child-copied (c .before .before .before .before .before .before .before .before .before .before .before .pre)))
+same-length c = c .before .before .step-in .ensures .size ∙ (simp length-set (ap length (c .before .before .before .before .before .before .before .before .copy .ensures) ∙ child-copied (c .before .before .before .before .before .before .before .before .before .before .before .before .pre)))
 
 returns : tie.Need-returns
-returns c = child-written (c .before .before .before .before .before .before .before .before .before .before .before .pre) (c .before .before .before .before .before .before .before .before .before .before .before .args .which) _ _ (child-depth (c .before .before .before .before .before .before .before .before .before .before .before .pre)) (rw (c .before .before .before .before .before .before .before .copy .ensures) at (c .before .before .step-in .ensures))
+returns c = child-written (c .before .before .before .before .before .before .before .before .before .before .before .before .pre) (c .before .before .before .before .before .before .before .before .before .before .before .before .args .which) _ _ (child-depth (c .before .before .before .before .before .before .before .before .before .before .before .before .pre)) (rw (c .before .before .before .before .before .before .before .before .copy .ensures) at (c .before .before .step-in .ensures))
 
 pub write-child-spec : {M : Type 1} → statement M
 write-child-spec =
@@ -37,6 +40,7 @@ write-child-spec =
     shared-slice-read-out
     add-out
     slice-write-out
+    split-place-requires
     step-in-requires
     same-length
     returns)

@@ -1,0 +1,50 @@
+-- `across_first` meets its contract: the sign of entry k + 1 decides between the two rows of facet 0.
+use mathlib.Core.Path.{_≡_, refl, sym, ap, _∙_}
+use Prim.Native.Nat.{ℕ, suc, _+_, _-_, _≤_, _<_}
+use lib.ListN.{length, getD, take, drop, length-set}
+use native.Mathlib.Omega.{arith}
+use Rattle.crossing.specs.Rearranging.{first-own, first-against}
+use borrow.Author.Needs.{needs}
+use Rattle.crossing.proofs.across_first.Statement.{statement}
+use Rattle.crossing.proofs.across_first.Tie as tie
+
+add-same-sign : tie.Need-add-same-sign
+add-same-sign c = search needs
+
+slice-read-same-sign : tie.Need-slice-read-same-sign
+slice-read-same-sign c = search needs
+
+same-sign-requires : tie.Need-same-sign-requires
+same-sign-requires c κs = search needs
+
+turn-requires : tie.Need-turn-requires
+turn-requires c κs = search needs
+
+same-length : tie.Need-same-length
+same-length c = search needs
+
+returns : tie.Need-returns
+returns c = first-own _ (c .before .before .before .before .before .before .before .before .pre) (sym (c .before .before .before .before .before .same-sign .ensures) ∙ c .before .before .before .before .if1 .taken) _ (c .before .before .turn .ensures)
+
+trade-first-requires : tie.Need-trade-first-requires
+trade-first-requires c κs = search needs
+
+same-length-2 : tie.Need-same-length-2
+same-length-2 c = search needs
+
+returns-2 : tie.Need-returns-2
+returns-2 c = first-against _ (c .before .before .before .before .before .before .before .before .pre) (sym (c .before .before .before .before .before .same-sign .ensures) ∙ c .before .before .before .before .if1 .left) _ (c .before .before .trade-first .ensures)
+
+pub across-first-spec : {M : Type 1} → statement M
+across-first-spec =
+    tie.close
+    (tie.spec
+    add-same-sign
+    slice-read-same-sign
+    same-sign-requires
+    turn-requires
+    same-length
+    returns
+    trade-first-requires
+    same-length-2
+    returns-2)

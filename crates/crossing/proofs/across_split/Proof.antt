@@ -1,0 +1,50 @@
+-- `across_split` meets its contract: the sign of entry k + 1 decides between the two rows of facet k.
+use mathlib.Core.Path.{_≡_, refl, sym, ap, _∙_}
+use Prim.Native.Nat.{ℕ, suc, _+_, _-_, _≤_, _<_}
+use lib.ListN.{length, getD, take, drop, length-set}
+use native.Mathlib.Omega.{arith}
+use Rattle.crossing.specs.Rearranging.{split-own, split-against}
+use borrow.Author.Needs.{needs}
+use Rattle.crossing.proofs.across_split.Statement.{statement}
+use Rattle.crossing.proofs.across_split.Tie as tie
+
+add-same-sign : tie.Need-add-same-sign
+add-same-sign c = search needs
+
+slice-read-same-sign : tie.Need-slice-read-same-sign
+slice-read-same-sign c = search needs
+
+same-sign-requires : tie.Need-same-sign-requires
+same-sign-requires c κs = search needs
+
+exchange-requires : tie.Need-exchange-requires
+exchange-requires c κs = search needs
+
+same-length : tie.Need-same-length
+same-length c = search needs
+
+returns : tie.Need-returns
+returns c = split-own _ (c .before .before .before .before .before .before .before .before .pre) (sym (c .before .before .before .before .before .same-sign .ensures) ∙ c .before .before .before .before .if1 .taken) _ (c .before .before .exchange .ensures)
+
+unturn-requires : tie.Need-unturn-requires
+unturn-requires c κs = search needs
+
+same-length-2 : tie.Need-same-length-2
+same-length-2 c = search needs
+
+returns-2 : tie.Need-returns-2
+returns-2 c = split-against _ (c .before .before .before .before .before .before .before .before .pre) (sym (c .before .before .before .before .before .same-sign .ensures) ∙ c .before .before .before .before .if1 .left) _ (c .before .before .unturn .ensures)
+
+pub across-split-spec : {M : Type 1} → statement M
+across-split-spec =
+    tie.close
+    (tie.spec
+    add-same-sign
+    slice-read-same-sign
+    same-sign-requires
+    exchange-requires
+    same-length
+    returns
+    unturn-requires
+    same-length-2
+    returns-2)

@@ -1,0 +1,77 @@
+-- `carry` meets its contract. The loop keeps: the carry flipped the orthants from t on, and none of them stopped it.
+use mathlib.Core.Path.{_≡_, refl, sym, ap, _∙_}
+use Prim.Native.Nat.{ℕ, suc, _+_, _-_, _≤_, _<_}
+use lib.ListN.{length, getD, take, drop, length-set}
+use native.Mathlib.Omega.{arith}
+use borrow.Author.Tests.{not-true, not-false}
+use Rattle.bisection.specs.Codes.{axis, minus}
+use Rattle.bisection.specs.Theorems.Table.{flipped}
+use Rattle.crossing.specs.Carrying.{Carrying, carrying-none, carrying-next, carrying-stopped, carrying-all}
+use borrow.Author.Needs.{needs}
+use Rattle.crossing.proofs.carry.Statement.{statement}
+use Rattle.crossing.proofs.carry.Tie as tie
+
+abbrev Inv-loop : tie.InvT-loop
+Inv-loop buf₀ from n e a t₀ buf t = (from ≤ t) × (t ≤ n) × (length buf ≡ length buf₀) × Carrying n (minus e) (axis e) buf₀ t buf
+
+abbrev μ-loop : tie.MeasureT-loop
+μ-loop buf₀ from n e a t₀ buf t = t
+
+axis-of-requires : tie.Need-axis-of-requires Inv-loop μ-loop
+axis-of-requires c κs = search needs
+
+loop-holds : tie.Need-loop-holds Inv-loop μ-loop
+loop-holds c = (omega (arith, c .before .before .pre .0), omega arith, refl, carrying-none _ _ _ _ (c .before .before .pre .1))
+
+sub-t : tie.Need-sub-t Inv-loop μ-loop
+sub-t c = search needs
+
+slice-read-orthant : tie.Need-slice-read-orthant Inv-loop μ-loop
+slice-read-orthant c = omega (arith, c .before .before .before .before .before .pre .1)
+
+flip-requires : tie.Need-flip-requires Inv-loop μ-loop
+flip-requires c κs = (omega (arith, c .before .before .before .before .before .pre .2, c .before .before .before .axis-of .ensures), omega (arith, c .before .before .before .before .before .pre .3, c .before .before .before .axis-of .ensures))
+
+slice-write-buf : tie.Need-slice-write-buf Inv-loop μ-loop
+slice-write-buf c = omega (arith, c .before .before .before .before .before .before .pre .1)
+
+same-sign-requires : tie.Need-same-sign-requires Inv-loop μ-loop
+same-sign-requires c κs = (c .before .before .before .before .before .before .pre .2, c .before .before .before .before .before .before .pre .3)
+
+same-length : tie.Need-same-length Inv-loop μ-loop
+same-length c = simp length-set (c .before .before .before .before .before .loop .inv .2)
+
+returns : tie.Need-returns Inv-loop μ-loop
+returns c = carrying-stopped _ _ _ _ (c .before .before .before .before .before .before .before .before .pre .1) (c .before .before .before .before .before .loop .inv .3) (c .before .before .before .before .before .loop .t - 1) (omega arith) (c .before .before .before .before .before .loop .inv .1) _ _ (c .before .before .before .before .before .before .axis-of .ensures) (c .before .before .flip .ensures) (sym (c .before .same-sign .ensures) ∙ not-true _ (c .if1 .taken)) _ (omega (arith, c .before .before .before .before .before .before .before .before .pre .0))
+
+loop-less : tie.Need-loop-less Inv-loop μ-loop
+loop-less c = search needs
+
+loop-again : tie.Need-loop-again Inv-loop μ-loop
+loop-again c = (omega arith, omega arith, simp length-set (c .before .before .before .before .before .loop .inv .2), carrying-next _ _ _ _ (c .before .before .before .before .before .before .before .before .pre .1) (c .before .before .before .before .before .loop .inv .3) (c .before .before .before .before .before .loop .t - 1) (omega arith) (c .before .before .before .before .before .loop .inv .1) _ _ (c .before .before .before .before .before .before .axis-of .ensures) (c .before .before .flip .ensures) (sym (c .before .same-sign .ensures) ∙ not-false _ (c .if1 .left)))
+
+same-length-2 : tie.Need-same-length-2 Inv-loop μ-loop
+same-length-2 c = c .before .loop .inv .2
+
+returns-2 : tie.Need-returns-2 Inv-loop μ-loop
+returns-2 c = carrying-all _ _ _ _ (c .before .before .before .before .pre .1) (c .before .loop .inv .3) _ (c .before .loop .inv .0) (c .loop-test .left)
+
+pub carry-spec : {M : Type 1} → statement M
+carry-spec =
+    tie.close
+    (tie.spec
+    Inv-loop
+    μ-loop
+    axis-of-requires
+    loop-holds
+    sub-t
+    slice-read-orthant
+    flip-requires
+    slice-write-buf
+    same-sign-requires
+    same-length
+    returns
+    loop-less
+    loop-again
+    same-length-2
+    returns-2)

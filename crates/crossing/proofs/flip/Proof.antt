@@ -1,0 +1,21 @@
+-- `flip` meets its contract: the shifted bit fits a byte, and xor flips it alone.
+use mathlib.Core.Path.{_≡_, refl, sym, ap, _∙_}
+use Prim.Native.Nat.{ℕ, suc, _+_, _-_, _≤_, _<_}
+use lib.ListN.{length, getD, take, drop, length-set}
+use native.Mathlib.Omega.{arith}
+use Rattle.crossing.specs.Carrying.{flipped-as}
+use borrow.Author.Needs.{needs}
+use Rattle.crossing.proofs.flip.Statement.{statement}
+use Rattle.crossing.proofs.flip.Tie as tie
+
+sub-result : tie.Need-sub-result
+sub-result c = search needs
+
+shl-result : tie.Need-shl-result
+shl-result c = search needs
+
+returns : tie.Need-returns
+returns c = flipped-as (c .args .orthant) (c .args .axis) (c .pre .0) (c .pre .1)
+
+pub flip-spec : {M : Type 1} → statement M
+flip-spec = tie.close (tie.spec sub-result shl-result returns)

@@ -1,0 +1,50 @@
+-- `rearrange` meets its contract: facet 0, facet k, and the others.
+use mathlib.Core.Path.{_≡_, refl, sym, ap, _∙_}
+use Prim.Native.Nat.{ℕ, suc, _+_, _-_, _≤_, _<_}
+use lib.ListN.{length, getD, take, drop, length-set}
+use native.Mathlib.Omega.{arith}
+use Rattle.crossing.specs.Rearranging.{at-first, at-same, within-first, within-split, within-other}
+use borrow.Author.Needs.{needs}
+use Rattle.crossing.proofs.rearrange.Statement.{statement}
+use Rattle.crossing.proofs.rearrange.Tie as tie
+
+across-first-requires : tie.Need-across-first-requires
+across-first-requires c κs = at-first (c .before .before .before .pre) (c .before .if1 .taken)
+
+same-length : tie.Need-same-length
+same-length c = search needs
+
+returns : tie.Need-returns
+returns c = within-first _ _ _ (c .before .before .before .before .before .before .args .buf .now) (c .before .before .before .before .if1 .taken) (c .before .before .across-first .ensures)
+
+across-split-requires : tie.Need-across-split-requires
+across-split-requires c κs = at-same (c .before .before .before .before .pre) (c .before .if2 .taken)
+
+same-length-2 : tie.Need-same-length-2
+same-length-2 c = search needs
+
+returns-2 : tie.Need-returns-2
+returns-2 c = within-split _ _ _ (c .before .before .before .before .before .before .before .args .buf .now) (c .before .before .before .before .before .if1 .left) (c .before .before .before .before .if2 .taken) (c .before .before .across-split .ensures)
+
+exchange-requires : tie.Need-exchange-requires
+exchange-requires c κs = (omega (arith, c .before .before .if1 .left), omega (arith, c .before .before .before .before .pre .room, c .before .before .before .before .pre .inside))
+
+same-length-3 : tie.Need-same-length-3
+same-length-3 c = search needs
+
+returns-3 : tie.Need-returns-3
+returns-3 c = within-other _ _ _ (c .before .before .before .before .before .before .before .args .buf .now) (c .before .before .before .before .before .if1 .left) (c .before .before .before .before .if2 .left) _ (c .before .before .exchange .ensures)
+
+pub rearrange-spec : {M : Type 1} → statement M
+rearrange-spec =
+    tie.close
+    (tie.spec
+    across-first-requires
+    same-length
+    returns
+    across-split-requires
+    same-length-2
+    returns-2
+    exchange-requires
+    same-length-3
+    returns-3)

@@ -1,0 +1,56 @@
+-- `runs_out` meets its contract. The loop keeps: no orthant from t on stops the carry.
+use mathlib.Core.Path.{_≡_, refl, sym, ap, _∙_}
+use Prim.Native.Nat.{ℕ, suc, _+_, _-_, _≤_, _<_}
+use lib.ListN.{length, getD, take, drop, length-set}
+use native.Mathlib.Omega.{arith}
+use borrow.Author.Tests.{not-true, not-false}
+use Rattle.bisection.specs.Codes.{axis, minus}
+use Rattle.crossing.specs.Carrying.{Running, running-none, running-next, running-stopped, running-all}
+use borrow.Author.Needs.{needs}
+use Rattle.crossing.proofs.runs_out.Statement.{statement}
+use Rattle.crossing.proofs.runs_out.Tie as tie
+
+abbrev Inv-loop : tie.InvT-loop
+Inv-loop code from e last₀ last = (from ≤ last) × (last ≤ length code) × Running (minus e) (axis e) code last
+
+abbrev μ-loop : tie.MeasureT-loop
+μ-loop code from e last₀ last = last
+
+loop-holds : tie.Need-loop-holds Inv-loop μ-loop
+loop-holds c = (c .before .pre .0, omega arith, running-none _ _ _)
+
+sub-last : tie.Need-sub-last Inv-loop μ-loop
+sub-last c = search needs
+
+shared-slice-read-same-sign : tie.Need-shared-slice-read-same-sign Inv-loop μ-loop
+shared-slice-read-same-sign c = search needs
+
+same-sign-requires : tie.Need-same-sign-requires Inv-loop μ-loop
+same-sign-requires c κs = (c .before .before .before .before .pre .1, c .before .before .before .before .pre .2)
+
+returns : tie.Need-returns Inv-loop μ-loop
+returns c = running-stopped _ _ _ (c .before .before .before .before .loop .inv .2) (c .before .before .before .before .loop .last - 1) (omega arith) (c .before .before .before .before .loop .inv .1) (sym (c .before .same-sign .ensures) ∙ not-true _ (c .if1 .taken)) _ (c .before .before .before .loop-test .taken)
+
+loop-less : tie.Need-loop-less Inv-loop μ-loop
+loop-less c = search needs
+
+loop-again : tie.Need-loop-again Inv-loop μ-loop
+loop-again c = (omega arith, omega arith, running-next _ _ _ (c .before .before .before .before .loop .inv .2) (c .before .before .before .before .loop .last - 1) (omega arith) (c .before .before .before .before .loop .inv .1) (sym (c .before .same-sign .ensures) ∙ not-false _ (c .if1 .left)))
+
+returns-2 : tie.Need-returns-2 Inv-loop μ-loop
+returns-2 c = running-all _ _ _ (c .before .loop .inv .2) _ (c .before .loop .inv .0) (c .loop-test .left)
+
+pub runs-out-spec : {M : Type 1} → statement M
+runs-out-spec =
+    tie.close
+    (tie.spec
+    Inv-loop
+    μ-loop
+    loop-holds
+    sub-last
+    shared-slice-read-same-sign
+    same-sign-requires
+    returns
+    loop-less
+    loop-again
+    returns-2)

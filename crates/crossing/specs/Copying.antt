@@ -1,0 +1,104 @@
+-- A code copied to a buffer's front, four bytes at a time.
+use mathlib.Core.Path.{_≡_, refl, sym, ap, _∙_}
+use mathlib.Core.List.{List, _++_}
+use Prim.Native.Nat.{ℕ, _+_, _-_, _≤_, _<_}
+use native.Mathlib.Omega.{arith}
+use native.Mathlib.Decide.{decLt, ℕ-discrete}
+use lib.ListN.{length, getD, drop, set, length-append, length-drop, length-set, List·getD-append}
+use lib.Seq.{getD-drop, getD-append-add, getD-set-same, getD-set-other, ext-getD}
+
+-- four bytes from a place on are copied, and the others stay
+pub record CopiesFour (at : ℕ) (src dst r : List ℕ) : Type 0 where
+  pub size : length r ≡ length dst
+  pub before : (j : ℕ) → j < at → getD r j 0 ≡ getD dst j 0
+  pub copied : (j : ℕ) → at ≤ j → j < at + 4 → getD r j 0 ≡ getD src j 0
+  pub past : (j : ℕ) → at + 4 ≤ j → getD r j 0 ≡ getD dst j 0
+
+module _ (at : ℕ) (src dst : List ℕ) (h : at + 4 ≤ length dst) where
+  a : List ℕ
+  a = set dst at (getD src at 0)
+
+  b : List ℕ
+  b = set a (at + 1) (getD src (at + 1) 0)
+
+  c : List ℕ
+  c = set b (at + 2) (getD src (at + 2) 0)
+
+  d : List ℕ
+  d = set c (at + 3) (getD src (at + 3) 0)
+
+  length-a : length a ≡ length dst
+  unfolding a
+  length-a = length-set dst at (getD src at 0)
+
+  length-b : length b ≡ length dst
+  unfolding b
+  length-b = length-set a (at + 1) (getD src (at + 1) 0) ∙ length-a
+
+  length-c : length c ≡ length dst
+  unfolding c
+  length-c = length-set b (at + 2) (getD src (at + 2) 0) ∙ length-b
+
+  other : (j : ℕ) → (j ≡ at → ⊥) → (j ≡ at + 1 → ⊥) → (j ≡ at + 2 → ⊥) → (j ≡ at + 3 → ⊥) → getD d j 0 ≡ getD dst j 0
+  unfolding a b c d
+  other j n o p q = getD-set-other c (at + 3) j (getD src (at + 3) 0) 0 q ∙ getD-set-other b (at + 2) j (getD src (at + 2) 0) 0 p
+      ∙ getD-set-other a (at + 1) j (getD src (at + 1) 0) 0 o ∙ getD-set-other dst at j (getD src at 0) 0 n
+
+  one : (j : ℕ) → at ≤ j → j < at + 4 → Dec (j ≡ at) → Dec (j ≡ at + 1) → Dec (j ≡ at + 2) → getD d j 0 ≡ getD src j 0
+  unfolding a b c d
+  one j l u (yes e) f g = getD-set-other c (at + 3) j (getD src (at + 3) 0) 0 (omega arith) ∙ getD-set-other b (at + 2) j (getD src (at + 2) 0) 0 (omega arith)
+      ∙ getD-set-other a (at + 1) j (getD src (at + 1) 0) 0 (omega arith) ∙ rw e (getD-set-same dst at (getD src at 0) 0 (omega arith))
+  one j l u (no e) (yes f) g = getD-set-other c (at + 3) j (getD src (at + 3) 0) 0 (omega arith) ∙ getD-set-other b (at + 2) j (getD src (at + 2) 0) 0 (omega arith)
+      ∙ rw f (getD-set-same a (at + 1) (getD src (at + 1) 0) 0 (omega (arith, length-a)))
+  one j l u (no e) (no f) (yes g) = getD-set-other c (at + 3) j (getD src (at + 3) 0) 0 (omega arith) ∙ rw g (getD-set-same b (at + 2) (getD src (at + 2) 0) 0 (omega (arith, length-b)))
+  one j l u (no e) (no f) (no g) = ap (λ (x : ℕ). getD d x 0) last ∙ getD-set-same c (at + 3) (getD src (at + 3) 0) 0 (omega (arith, length-c)) ∙ ap (λ (x : ℕ). getD src x 0) (sym last)
+    where
+      last : j ≡ at + 3
+      last = omega arith
+
+  four : CopiesFour at src dst d
+  unfolding d
+  four = record
+    { size = length-set c (at + 3) (getD src (at + 3) 0) ∙ length-c
+    ; before = λ j l. other j (omega arith) (omega arith) (omega arith) (omega arith)
+    ; copied = λ j l u. one j l u (ℕ-discrete j at) (ℕ-discrete j (at + 1)) (ℕ-discrete j (at + 2))
+    ; past = λ j l. other j (omega arith) (omega arith) (omega arith) (omega arith) }
+
+  pub copies-four : CopiesFour at src dst (set (set (set (set dst at (getD src at 0)) (at + 1) (getD src (at + 1) 0)) (at + 2) (getD src (at + 2) 0)) (at + 3) (getD src (at + 3) 0))
+  unfolding a b c d
+  copies-four = four
+
+-- the copy under way: the places before i are copied
+pub record Copying (code out : List ℕ) (i : ℕ) (buf : List ℕ) : Type 0 where
+  pub size : length buf ≡ length out
+  pub copied : (j : ℕ) → j < i → getD buf j 0 ≡ getD code j 0
+  pub past : (j : ℕ) → i ≤ j → getD buf j 0 ≡ getD out j 0
+
+pub copying-none : (code out : List ℕ) → Copying code out 0 out
+copying-none code out = record { size = refl; copied = λ j h. absurd (omega arith); past = λ j h. refl }
+
+module _ {code out : List ℕ} {i : ℕ} {buf r : List ℕ} (s : Copying code out i buf) where
+  -- four more from a place on up to which all are copied
+  copying-to : (at : ℕ) → CopiesFour at code buf r → at ≤ i → i ≤ at + 4 → Copying code out (at + 4) r
+  copying-to at f l u = record { size = f .size ∙ s .size; copied = λ j h. go j h (decLt j at); past = λ j h. f .past j h ∙ s .past j (omega arith) }
+    where
+      go : (j : ℕ) → j < at + 4 → Dec (j < at) → getD r j 0 ≡ getD code j 0
+      go j h (yes q) = f .before j q ∙ s .copied j (omega arith)
+      go j h (no q) = f .copied j (omega arith) h
+
+  pub copying-next : CopiesFour i code buf r → Copying code out (i + 4) r
+  copying-next f = copying-to i f (omega arith) (omega arith)
+
+  pub copying-last : (last : ℕ) → CopiesFour last code buf r → last ≤ i → i ≤ last + 4 → last + 4 ≡ length code → length code ≤ length out → r ≡ code ++ drop (length code) out
+  copying-last last f l u e h = ext-getD 0 r (code ++ drop (length code) out) (t .size ∙ sym size) (λ j q. go j (decLt j (length code)))
+    where
+      t : Copying code out (last + 4) r
+      t = copying-to last f l u
+      size : length (code ++ drop (length code) out) ≡ length out
+      size = simp (length-append, length-drop) (omega arith)
+      go : (j : ℕ) → Dec (j < length code) → getD r j 0 ≡ getD (code ++ drop (length code) out) j 0
+      go j (yes q) = t .copied j (omega arith) ∙ sym (List·getD-append code (drop (length code) out) 0 j q)
+      go j (no q) = t .past j (omega arith) ∙ sym (ap (λ (x : ℕ). getD (code ++ drop (length code) out) x 0) there ∙ getD-append-add code (drop (length code) out) (j - length code) 0 ∙ getD-drop (length code) out (j - length code) 0 ∙ ap (λ (x : ℕ). getD out x 0) (sym there))
+        where
+          there : j ≡ length code + (j - length code)
+          there = omega arith

@@ -1,0 +1,222 @@
+-- A crossing that leaves the box: facet d, and facet 0 at the start of a level. One entry changes its sign, the box
+-- moves against an entry, and the new vertex stands where the old one did.
+use mathlib.Core.Path.{_≡_, refl, sym, ap, _∙_, subst}
+use mathlib.Core.Bool.{Bool, true, false, not}
+use mathlib.Core.List.{List, [], _∷_, _++_, append-assoc}
+use mathlib.Core.Logic.{_≢_}
+use Prim.Native.Nat.{ℕ, zero, suc, _+_, _-_, _≤_, _<_}
+use native.Mathlib.Omega.{arith}
+use native.Mathlib.Decide.{decLt}
+use lib.Dec.{T}
+use lib.ListN.{length, getD, take, drop, set, length-append, length-take, length-drop, length-set, List·getD-append}
+use lib.Seq.{slice, drop-length, set-append-left, take-at, drop-at, getD-drop, getD-take, take-all}
+use borrow.Author.Tests.{eq-eqb, ne-eqb}
+use Rattle.dimension.specs.Sizes.{codeLength, splitPlace, boxDepth}
+use Rattle.bisection.specs.Codes.{axis, minus, negated, high, Name, bytes, dimensionOf, depthOf, entriesOf, orthantsOf, partsOf}
+use Rattle.bisection.specs.Refusals.{done, codeRefusal}
+use Rattle.bisection.specs.Theorems.Entries.{axis-negated, minus-negated}
+use Rattle.bisection.specs.Theorems.Table.{Move, farther, nearer, move, moveOf, newAt, newPlace, nextOwn, negatedAt, entriesBy, orthantsBy, blockedBy, blocked, acrossName, runsOut, carried}
+use Rattle.bisection.specs.Theorems.Crossing.Rearranged.{negatedAt-length}
+use Rattle.bisection.specs.Theorems.Neighbour.{isBlocked, tableCode, tablePlace}
+use Rattle.codes.specs.Buffers.{atPlace, entry-at}
+use Rattle.codes.specs.Relatives.{Checked, checked}
+use Rattle.crossing.specs.declared.Crossed.{Crossed}
+use Rattle.crossing.specs.Outcome.{Crosses}
+use Rattle.crossing.specs.Carrying.{carriedIn}
+use Rattle.crossing.specs.Rearranging.{set-place}
+use Rattle.crossing.specs.Answers.{negated-append}
+
+-- the row: what the table says, told by the entry e against which the box moves and the place whose sign changes
+pub record Leaving (code : List ℕ) (d at e i : ℕ) : Type 0 where
+  pub passes : codeRefusal code ≡ done
+  pub axes : d ≡ dimensionOf code
+  pub facet : i ≤ d
+  pub place : at < d
+  pub low : 1 ≤ axis e
+  pub high : axis e ≤ 8
+  pub wall : isBlocked code i ≡ runsOut (minus e) (axis e) (orthantsOf code)
+  pub entries : (acrossName (dimensionOf code) (depthOf code) i (partsOf code)) .entries ≡ negatedAt at (entriesOf code)
+  pub orthants : (acrossName (dimensionOf code) (depthOf code) i (partsOf code)) .orthants ≡ carried (minus e) (axis e) (orthantsOf code)
+  pub new : tablePlace code i ≡ i
+
+-- the two rows
+module _ (code : List ℕ) (p : codeRefusal code ≡ done) where
+  d : ℕ
+  d = dimensionOf code
+
+  k : Checked code
+  k = checked code p
+
+  es : List ℕ
+  es = entriesOf code
+
+  entry-of : (t : ℕ) → t < d → getD code (2 + t) 0 ≡ getD es t 0
+  unfolding d es entriesOf
+  entry-of t h = entry-at code 2 (dimensionOf code) t h
+
+  entry-low : (t : ℕ) → t < d → 1 ≤ axis (getD code (2 + t) 0)
+  unfolding d es partsOf
+  entry-low t h = rw (entry-of t h) (k .good .passes .signed .low t h)
+
+  entry-high : (t : ℕ) → t < d → axis (getD code (2 + t) 0) ≤ 8
+  unfolding d es partsOf
+  entry-high t h = rw (entry-of t h) (omega (arith, k .good .passes .signed .high t h, k .range .few))
+
+  pub leaving-entry : 2 + dimensionOf code ≤ length code
+  unfolding codeLength
+  leaving-entry = omega (arith, k .size)
+
+  pub leaving-low : (t : ℕ) → t < dimensionOf code → 1 ≤ axis (getD code (2 + t) 0)
+  unfolding d
+  leaving-low t h = entry-low t h
+
+  some : 0 < d
+  unfolding d
+  some = omega (arith, k .range .two)
+
+  pub leaving-far : (i e : ℕ) → i ≡ dimensionOf code → e ≡ getD code (2 + (dimensionOf code - 1)) 0 → Leaving code (dimensionOf code) (dimensionOf code - 1) e i
+  unfolding d es blocked acrossName newPlace moveOf partsOf
+  leaving-far i e q f = rw (f, entry-of (dimensionOf code - 1) (omega (arith, some))) (record
+    { passes = p; axes = refl; facet = omega arith; place = omega (arith, some)
+    ; low = rw (← entry-of (dimensionOf code - 1) (omega (arith, some))) (entry-low (dimensionOf code - 1) (omega (arith, some)))
+    ; high = rw (← entry-of (dimensionOf code - 1) (omega (arith, some))) (entry-high (dimensionOf code - 1) (omega (arith, some)))
+    ; wall = rw row (unfold blockedBy in refl)
+    ; entries = rw row (unfold entriesBy in refl)
+    ; orthants = rw row (unfold orthantsBy in refl)
+    ; new = rw row (unfold newAt in sym q) })
+    where
+      row : move (dimensionOf code) (splitPlace (dimensionOf code) (depthOf code)) i (nextOwn (splitPlace (dimensionOf code) (depthOf code)) (record { entries = entriesOf code; orthants = orthantsOf code })) ≡ farther
+      row = unfold move in rw (eq-eqb i (dimensionOf code) q) refl
+
+  pub leaving-near : (i e : ℕ) → i ≡ 0 → splitPlace (dimensionOf code) (depthOf code) ≡ dimensionOf code → e ≡ negated (getD code (2 + 0) 0) → Leaving code (dimensionOf code) 0 e i
+  unfolding d es blocked acrossName newPlace moveOf partsOf
+  leaving-near i e q s f = rw (f, entry-of 0 some) (record
+    { passes = p; axes = refl; facet = omega arith; place = some
+    ; low = rw same (omega (arith, signed-low)); high = rw same (omega (arith, signed-high, k .range .few))
+    ; wall = rw (row, same, turns) (unfold blockedBy in refl)
+    ; entries = rw row (unfold entriesBy in refl)
+    ; orthants = rw (row, same, turns) (unfold orthantsBy in refl)
+    ; new = rw row (unfold newAt in sym q) })
+    where
+      signed-low : 1 ≤ axis (getD (entriesOf code) 0 0)
+      signed-low = k .good .passes .signed .low 0 some
+      signed-high : axis (getD (entriesOf code) 0 0) ≤ dimensionOf code
+      signed-high = k .good .passes .signed .high 0 some
+      small : axis (getD (entriesOf code) 0 0) < 128
+      small = omega (arith, signed-high, k .range .few)
+      same : axis (negated (getD (entriesOf code) 0 0)) ≡ axis (getD (entriesOf code) 0 0)
+      same = axis-negated (getD (entriesOf code) 0 0) small
+      turns : minus (negated (getD (entriesOf code) 0 0)) ≡ not (minus (getD (entriesOf code) 0 0))
+      turns = minus-negated (getD (entriesOf code) 0 0) small
+      row : move (dimensionOf code) (splitPlace (dimensionOf code) (depthOf code)) i (nextOwn (splitPlace (dimensionOf code) (depthOf code)) (record { entries = entriesOf code; orthants = orthantsOf code })) ≡ nearer
+      row = unfold move in rw (ne-eqb i (dimensionOf code) (omega (arith, some)), eq-eqb i 0 q, eq-eqb (splitPlace (dimensionOf code) (depthOf code)) (dimensionOf code) s) refl
+
+  -- the same, as the code computes the numbers
+  pub leaving-last : (n i e : ℕ) → n ≡ dimensionOf code → i ≡ n → e ≡ getD code (1 + n) 0 → Leaving code n (n - 1) e i
+  unfolding d
+  leaving-last n i e q h f = subst (λ (x : ℕ). Leaving code x (x - 1) e i) (sym q) (leaving-far i e (h ∙ q) (f ∙ ap (λ (j : ℕ). getD code j 0) there))
+    where
+      there : 1 + n ≡ 2 + (dimensionOf code - 1)
+      there = omega (arith, some)
+
+  pub leaving-first : (n j i e : ℕ) → n ≡ dimensionOf code → j ≡ splitPlace (dimensionOf code) (depthOf code) → i ≡ 0 → j ≡ n → e ≡ negated (getD code 2 0) → Leaving code n 0 e i
+  leaving-first n j i e q s h t f = subst (λ (x : ℕ). Leaving code x 0 e i) (sym q) (leaving-near i e h (sym s ∙ t ∙ q) f)
+
+-- the carry through orthants that stand behind a head and before the rest
+carried-held : (up : Bool) (a : ℕ) (head os rest : List ℕ) (from n : ℕ) → length head ≡ from → length (head ++ os) ≡ n → carriedIn from n up a (head ++ (os ++ rest)) ≡ head ++ (carried up a os ++ rest)
+unfolding carriedIn
+carried-held up a head os rest from n e f = rw (take-at head (os ++ rest) from e) (ap (λ (l : List ℕ). head ++ (carried up a l ++ drop n (head ++ (os ++ rest)))) middle ∙ ap (λ (l : List ℕ). head ++ (carried up a os ++ l)) behind)
+  where
+    joined : head ++ (os ++ rest) ≡ (head ++ os) ++ rest
+    joined = sym (append-assoc head os rest)
+    middle : slice from n (head ++ (os ++ rest)) ≡ os
+    middle = ap (drop from) (ap (take n) joined ∙ take-at (head ++ os) rest n f) ∙ drop-at head os from e
+    behind : drop n (head ++ (os ++ rest)) ≡ rest
+    behind = ap (drop n) joined ∙ drop-at (head ++ os) rest n f
+
+module _ {code : List ℕ} {d at e i : ℕ} (r : Leaving code d at e i) where
+  k' : Checked code
+  k' = checked code (r .passes)
+
+  pub leaving-room : 2 + d ≤ length code
+  unfolding codeLength
+  leaving-room = omega (arith, k' .size, r .axes)
+
+  pub leaving-long : 4 ≤ length code
+  leaving-long = omega (arith, leaving-room, r .axes, k' .range .two)
+
+  pub leaving-at : 2 + at < length code
+  leaving-at = omega (arith, leaving-room, r .place)
+
+  pub leaving-few : d ≤ 4
+  leaving-few = omega (arith, k' .range .few, r .axes)
+
+  pub leaving-wall : (t : Bool) → t ≡ runsOut (minus e) (axis e) (drop (2 + d) code) → isBlocked code i ≡ t
+  unfolding orthantsOf
+  leaving-wall t q = r .wall ∙ sym (q ∙ ap (λ (x : ℕ). runsOut (minus e) (axis e) (drop (2 + x) code)) (r .axes))
+
+  pub leaving-some : runsOut (minus e) (axis e) (drop (2 + d) code) ≡ false → 2 + d < length code
+  leaving-some q = go (decLt (2 + d) (length code))
+    where
+      go : Dec (2 + d < length code) → 2 + d < length code
+      go (yes h) = h
+      go (no h) = absurd (subst T (sym (ap (λ (l : List ℕ). runsOut (minus e) (axis e) l) none) ∙ q) (unfold runsOut in tt))
+        where
+          all : 2 + d ≡ length code
+          all = omega (arith, leaving-room)
+          none : drop (2 + d) code ≡ []
+          none = ap (λ (n : ℕ). drop n code) all ∙ drop-length code
+
+  pub leaving-facet : i ≤ dimensionOf code
+  leaving-facet = omega (arith, r .facet, r .axes)
+
+  pub leaving-axis : 1 ≤ axis (getD code (2 + at) 0)
+  leaving-axis = leaving-low code (r .passes) at (omega (arith, r .place, r .axes))
+
+  -- the buffer: the code copied, the sign changed, then the carry
+  module _ (out : List ℕ) (v : ℕ) (f : v ≡ negated (getD code (2 + at) 0)) where
+    m : Name
+    m = partsOf code
+
+    rest : List ℕ
+    rest = drop (length code) out
+
+    head : List ℕ
+    head = dimensionOf code ∷ depthOf code ∷ negatedAt at (m .entries)
+
+    sized : length (m .entries) ≡ dimensionOf code
+    unfolding m
+    sized = k' .good .passes .signed .size
+
+    entry-there : getD code (2 + at) 0 ≡ getD (m .entries) at 0
+    unfolding m partsOf entriesOf
+    entry-there = entry-at code 2 (dimensionOf code) at (omega (arith, r .place, r .axes))
+
+    there : 2 + at ≡ suc (suc at)
+    there = omega arith
+
+    stored : set (code ++ rest) (2 + at) v ≡ head ++ (m .orthants ++ rest)
+    unfolding head m negatedAt
+    stored = ap (λ (l : List ℕ). set (l ++ rest) (2 + at) v) (k' .good .is) ∙ (unfold bytes in rw there (ap (λ (l : List ℕ). dimensionOf code ∷ depthOf code ∷ l)
+        (ap (λ (l : List ℕ). set l at v) (append-assoc ((partsOf code) .entries) ((partsOf code) .orthants) rest)
+          ∙ set-append-left ((partsOf code) .entries) ((partsOf code) .orthants ++ rest) at v (omega (arith, sized, r .place, r .axes))
+          ∙ ap (λ (x : ℕ). set ((partsOf code) .entries) at x ++ ((partsOf code) .orthants ++ rest)) (f ∙ ap negated entry-there))))
+
+    written : carriedIn (2 + d) (length code) (minus e) (axis e) (set (code ++ rest) (2 + at) v) ≡ tableCode code i ++ rest
+    unfolding head m bytes partsOf
+    written = ap (carriedIn (2 + d) (length code) (minus e) (axis e)) stored
+        ∙ carried-held (minus e) (axis e) head (orthantsOf code) rest (2 + d) (length code) front whole
+        ∙ sym (append-assoc head (carried (minus e) (axis e) (orthantsOf code)) rest) ∙ ap (λ (l : List ℕ). (dimensionOf code ∷ depthOf code ∷ l) ++ rest) (sym both)
+      where
+        n : Name
+        n = acrossName (dimensionOf code) (depthOf code) i (partsOf code)
+        both : n .entries ++ n .orthants ≡ negatedAt at (entriesOf code) ++ carried (minus e) (axis e) (orthantsOf code)
+        both = ap (λ (l : List ℕ). l ++ n .orthants) (r .entries) ∙ ap (λ (l : List ℕ). negatedAt at (entriesOf code) ++ l) (r .orthants)
+        front : length head ≡ 2 + d
+        front = omega (arith, sized, r .axes, negatedAt-length at ((partsOf code) .entries))
+        whole : length (head ++ (partsOf code) .orthants) ≡ length code
+        whole = simp length-append (omega (arith, ap length (k' .good .is), length-append ((partsOf code) .entries) ((partsOf code) .orthants), negatedAt-length at ((partsOf code) .entries)))
+
+    pub leaving-written : carriedIn (2 + d) (length code) (minus e) (axis e) (set (code ++ drop (length code) out) (2 + at) v) ≡ tableCode code i ++ drop (length code) out
+    unfolding rest
+    leaving-written = written

@@ -1,0 +1,12 @@
+-- Crossing a facet.
+-- What the entry answers, for every input: the contract, to be read beside document 01.
+pub mod Outcome
+-- The contract determines the answer, and crossing back leads back.
+pub mod Determined
+-- What the proofs of the functions use.
+pub mod Copying
+pub mod Carrying
+pub mod Rearranging
+pub mod Answers
+pub mod Leaving
+pub mod Staying
