@@ -12,6 +12,7 @@ pub mod Walks
 pub mod Heads
 -- Entries in a buffer; one step on and one step back.
 pub mod Buffers
+pub mod Copying
 pub mod Steps
 -- Child and parent; whole paths down and up; what the path entries answer.
 pub mod Relatives

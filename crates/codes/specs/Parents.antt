@@ -23,7 +23,7 @@ use Rattle.codes.specs.Heads.{fails, holds, last-fails, last-holds, firs
 use Rattle.codes.specs.Buffers.{atPlace}
 use Rattle.codes.specs.Steps.{StepsBack}
 use Rattle.codes.specs.Walks.{ownByte}
-use Rattle.codes.specs.Relatives.{Checked, checked, ParentReady, copied-front, length-grows, refused-writes, done-writes}
+use Rattle.codes.specs.Relatives.{Checked, checked, ParentReady, length-grows, refused-writes, done-writes}
 
 -- a turn back of the first entries goes no further
 pub unstepped-append : (b n : ℕ) (es rest : List ℕ) → n < length es → unstepped b n (es ++ rest) ≡ unstepped b n es ++ rest
@@ -67,6 +67,10 @@ module _ {code out : List ℕ} {d D : ℕ} (r : ParentReady code d D out) where
   pub parent-front : codeLength d D ≤ length code
   parent-front = omega (arith, size, length-grows d D d0)
 
+  pub parent-four : 4 ≤ codeLength d D
+  unfolding codeLength
+  parent-four = omega (arith, r .axes, k .range .two)
+
   pub parent-two : 2 ≤ length code
   unfolding codeLength
   parent-two = omega (arith, size)
@@ -97,15 +101,15 @@ module _ {code out : List ℕ} {d D : ℕ} (r : ParentReady code d D out) where
   left = take (boxDepth d D) os ++ drop (codeLength d D) out
 
   buffer : (j v : ℕ) → List ℕ
-  buffer j v = set (paste out 0 (drop 0 code) j) 1 v
+  buffer j v = set (take j code ++ drop j out) 1 v
 
   buffer-is : (j v : ℕ) → j ≡ codeLength d D → buffer j v ≡ d ∷ v ∷ (es ++ left)
   unfolding buffer left
-  buffer-is j v e = rw e (ap (λ (l : List ℕ). set l 1 v) (copied-front out code (codeLength d D) ∙ ap (λ (l : List ℕ). l ++ drop (codeLength d D) out) cut))
+  buffer-is j v e = rw e (ap (λ (l : List ℕ). set l 1 v) (ap (λ (l : List ℕ). l ++ drop (codeLength d D) out) cut))
       ∙ ap (λ (l : List ℕ). d ∷ v ∷ l) (append-assoc es (take (boxDepth d D) os) (drop (codeLength d D) out))
 
-  pub parent-size : (j : ℕ) → j ≡ codeLength d D → length (paste out 0 (drop 0 code) j) ≡ length out
-  parent-size j e = rw (e, copied-front out code (codeLength d D)) (length-append (take (codeLength d D) code) (drop (codeLength d D) out) ∙ simp (length-take, length-drop) (omega (arith, r .room, parent-front)))
+  pub parent-size : (j : ℕ) → j ≡ codeLength d D → length (take j code ++ drop j out) ≡ length out
+  parent-size j e = rw e (length-append (take (codeLength d D) code) (drop (codeLength d D) out) ∙ simp (length-take, length-drop) (omega (arith, r .room, parent-front)))
 
   -- entry n in the buffer
   entry-is : (j v : ℕ) → j ≡ codeLength d D → (p : ℕ) → p ≡ n → getD (buffer j v) (2 + p) 0 ≡ getD es n 0
@@ -115,11 +119,11 @@ module _ {code out : List ℕ} {d D : ℕ} (r : ParentReady code d D out) where
       two = omega arith
 
   pub parent-ready : (j v p : ℕ) → j ≡ codeLength d D → p ≡ splitPlace d D - 1
-      → (2 + p < length (set (paste out 0 (drop 0 code) j) 1 v)) × (1 ≤ axis (getD (set (paste out 0 (drop 0 code) j) 1 v) (2 + p) 0)) × (axis (getD (set (paste out 0 (drop 0 code) j) 1 v) (2 + p) 0) ≤ 8)
+      → (2 + p < length (set (take j code ++ drop j out) 1 v)) × (1 ≤ axis (getD (set (take j code ++ drop j out) 1 v) (2 + p) 0)) × (axis (getD (set (take j code ++ drop j out) 1 v) (2 + p) 0) ≤ 8)
   unfolding buffer n
   parent-ready j v p e q = (room , rw (entry-is j v e p q) (low .0) , rw (entry-is j v e p q) (low .1))
     where
-      room : 2 + p < length (set (paste out 0 (drop 0 code) j) 1 v)
+      room : 2 + p < length (set (take j code ++ drop j out) 1 v)
       room = unfold codeLength in simp length-set (omega (arith, parent-size j e, r .room, n-in, q))
       low : (1 ≤ axis (getD es n 0)) × (axis (getD es n 0) ≤ 8)
       low = unfold es in (passes .signed .low n n-in, omega (arith, passes .signed .high n n-in, r .axes, k .range .few))
@@ -142,7 +146,7 @@ module _ {code out : List ℕ} {d D : ℕ} (r : ParentReady code d D out) where
       again = unfold fewer n es os in refl
 
   pub parent-written : (j v p own b : ℕ) (a : List ℕ) → j ≡ codeLength d D → v ≡ D → p ≡ splitPlace d D - 1 → own ≡ ownByte (take (boxDepth d D) (drop (2 + d) code))
-      → StepsBack 2 p own (set (paste out 0 (drop 0 code) j) 1 v) b a → a ≡ parentCode code ++ drop (codeLength d D) out
+      → StepsBack 2 p own (set (take j code ++ drop j out) 1 v) b a → a ≡ parentCode code ++ drop (codeLength d D) out
   unfolding buffer n parentCode m
   parent-written j v p own b a e f q o s = written j v p own b a e f q (own-is own o) s ∙ rw (← r .axes, ← less) refl
     where

@@ -88,9 +88,6 @@ framed d E r n x y e f = sym (take-append-drop 2 r) ∙ rw f (ap (λ (l : List �
         ∙ ap (λ (q : Name). (q .entries ++ q .orthants) ++ drop (2 + d + L) r) e
 
 -- a copy to the front
-pub copied-front : (out s : List ℕ) (n : ℕ) → paste out 0 (drop 0 s) n ≡ take n s ++ drop n out
-copied-front out s n = rw (zero-add n) refl
-
 drop-more : (xs ys : List ℕ) (m : ℕ) → length xs ≤ m → drop m (xs ++ drop (length xs) ys) ≡ drop m ys
 drop-more xs ys m h = ap (λ (k : ℕ). drop k (xs ++ drop (length xs) ys)) (sym parts) ∙ drop-append-add xs (drop (length xs) ys) (m - length xs) ∙ drop-drop (m - length xs) (length xs) ys ∙ ap (λ (k : ℕ). drop k ys) parts
   where
@@ -131,6 +128,10 @@ module _ {code out : List ℕ} {d D : ℕ} (r : ChildReady code d D out) where
   pub child-fits : length code ≤ length out
   child-fits = omega (arith, size, r .room, length-grows d D d0)
 
+  pub child-four : 4 ≤ length code
+  unfolding codeLength
+  child-four = omega (arith, size, r .axes, k .range .two)
+
   pub child-two : 2 ≤ length code
   unfolding codeLength
   child-two = omega (arith, size)
@@ -147,14 +148,14 @@ module _ {code out : List ℕ} {d D : ℕ} (r : ChildReady code d D out) where
   unfolding depthOf
   child-byte = omega (arith, k .good .depth, depth-small (dimensionOf code) (k .range))
 
-  pub child-copied : length (paste out 0 (drop 0 code) (length code)) ≡ length out
-  child-copied = rw (copied-front out code (length code)) (length-append (take (length code) code) (drop (length code) out) ∙ simp (length-take, length-drop) (omega (arith, child-fits)))
+  pub child-copied : length (take (length code) code ++ drop (length code) out) ≡ length out
+  child-copied = (length-append (take (length code) code) (drop (length code) out) ∙ simp (length-take, length-drop) (omega (arith, child-fits)))
 
-  front : paste out 0 (drop 0 code) (length code) ≡ bytes d D m ++ drop (length code) out
-  front = copied-front out code (length code) ∙ ap (λ (l : List ℕ). l ++ drop (length code) out) (take-all (length code) code (omega arith) ∙ is)
+  front : take (length code) code ++ drop (length code) out ≡ bytes d D m ++ drop (length code) out
+  front = ap (λ (l : List ℕ). l ++ drop (length code) out) (take-all (length code) code (omega arith) ∙ is)
 
   pub childBuffer : ℕ → List ℕ
-  childBuffer v = set (paste out 0 (drop 0 code) (length code)) 1 v
+  childBuffer v = set (take (length code) code ++ drop (length code) out) 1 v
 
   buffer-is : (v : ℕ) → childBuffer v ≡ d ∷ v ∷ ((m .entries ++ m .orthants) ++ drop (length code) out)
   unfolding childBuffer
@@ -162,7 +163,7 @@ module _ {code out : List ℕ} {d D : ℕ} (r : ChildReady code d D out) where
 
   buffer-size : (v : ℕ) → length (childBuffer v) ≡ length out
   unfolding childBuffer
-  buffer-size v = length-set (paste out 0 (drop 0 code) (length code)) 1 v ∙ child-copied
+  buffer-size v = length-set (take (length code) code ++ drop (length code) out) 1 v ∙ child-copied
 
   buffer-name : (v : ℕ) → nameIn d D (childBuffer v) ≡ m
   buffer-name v = rw (buffer-is v) (name-held d D d v m (drop (length code) out) (passes .signed .size) (passes .boxes .count))
@@ -170,7 +171,7 @@ module _ {code out : List ℕ} {d D : ℕ} (r : ChildReady code d D out) where
   ready : (v : ℕ) → (codeLength d (suc D) ≤ length (childBuffer v)) × Passes d D (nameIn d D (childBuffer v))
   ready v = (rw (buffer-size v) (r .room), rw (buffer-name v) passes)
 
-  pub child-ready : (v : ℕ) → (codeLength d (suc D) ≤ length (set (paste out 0 (drop 0 code) (length code)) 1 v)) × Passes d D (nameIn d D (set (paste out 0 (drop 0 code) (length code)) 1 v))
+  pub child-ready : (v : ℕ) → (codeLength d (suc D) ≤ length (set (take (length code) code ++ drop (length code) out) 1 v)) × Passes d D (nameIn d D (set (take (length code) code ++ drop (length code) out) 1 v))
   unfolding childBuffer
   child-ready v = ready v
 
@@ -183,11 +184,11 @@ module _ {code out : List ℕ} {d D : ℕ} (r : ChildReady code d D out) where
       name : nameIn d (suc D) a ≡ step d D b m
       name = s .name ∙ ap (step d D b) (buffer-name v)
       rest : drop (codeLength d (suc D)) (childBuffer v) ≡ drop (codeLength d (suc D)) out
-      rest = unfold childBuffer in drop-set-lt (codeLength d (suc D)) (paste out 0 (drop 0 code) (length code)) 1 v (omega (arith, size, child-two, length-grows d D d0))
-          ∙ ap (drop (codeLength d (suc D))) (copied-front out code (length code) ∙ ap (λ (l : List ℕ). l ++ drop (length code) out) (take-all (length code) code (omega arith)))
+      rest = unfold childBuffer in drop-set-lt (codeLength d (suc D)) (take (length code) code ++ drop (length code) out) 1 v (omega (arith, size, child-two, length-grows d D d0))
+          ∙ ap (drop (codeLength d (suc D))) (ap (λ (l : List ℕ). l ++ drop (length code) out) (take-all (length code) code (omega arith)))
           ∙ drop-more code out (codeLength d (suc D)) (omega (arith, size, length-grows d D d0))
 
-  pub child-written : (b v : ℕ) (a : List ℕ) → v ≡ suc D → StepsTo d D b (set (paste out 0 (drop 0 code) (length code)) 1 v) a → a ≡ childCode b code ++ drop (codeLength d (suc D)) out
+  pub child-written : (b v : ℕ) (a : List ℕ) → v ≡ suc D → StepsTo d D b (set (take (length code) code ++ drop (length code) out) 1 v) a → a ≡ childCode b code ++ drop (codeLength d (suc D)) out
   unfolding childBuffer
   child-written b v a e s = written b v a e s
 

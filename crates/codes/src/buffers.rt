@@ -7,6 +7,7 @@ ghost use mathlib.Core.List.{_++_};
 ghost use Rattle.bisection.specs.Codes.{axis, turned, orthant};
 ghost use Rattle.bisection.specs.Theorems.Entries.{Signed, unturned};
 ghost use Rattle.codes.specs.Buffers.{atPlace};
+ghost use Rattle.codes.specs.Copying.{CopiesFour};
 
 use crate::entries;
 
@@ -20,6 +21,35 @@ pub fn copy(src: &[u8], from: usize, n: usize, dst: &mut [u8], to: usize)
         dst[to + i] = src[from + i];
         i += 1;
     }
+}
+
+// Copies the four bytes from a place on.
+fn copy_four(src: &[u8], at: usize, dst: &mut [u8])
+    requires { ⌜ (at + 4 ≤ length (now src)) × (at + 4 ≤ length (now dst)) ⌝ }
+    ensures { λ r. ⌜ CopiesFour at (now (src .entry)) (now (dst .entry)) (now (dst .exit)) ⌝ }
+{
+    let a = src[at];
+    let b = src[at + 1];
+    let c = src[at + 2];
+    let d = src[at + 3];
+    dst[at] = a;
+    dst[at + 1] = b;
+    dst[at + 2] = c;
+    dst[at + 3] = d;
+}
+
+// Copies the first n bytes of a code, four at a time: every code has four. The last four may have been copied in part.
+pub fn copy_front(code: &[u8], n: usize, out: &mut [u8])
+    requires { ⌜ (4 ≤ n) × (n ≤ length (now code)) × (n ≤ length (now out)) ⌝ }
+    ensures { λ r. ⌜ now (out .exit) ≡ take n (now (code .entry)) ++ drop n (now (out .entry)) ⌝ }
+{
+    let last = n - 4;
+    let mut i: usize = 0;
+    while i < last {
+        copy_four(code, i, out);
+        i += 4;
+    }
+    copy_four(code, last, out);
 }
 
 // Turns the n + 1 entries left by one place, the one that moves to place n negated.

@@ -94,7 +94,7 @@ pub fn write_child(code: &[u8], dim: Dim, depth: usize, which: u8, out: &mut [u8
     requires { ⌜ ChildReady (now code) (axesOf dim) depth (now out) ⌝ }
     ensures { λ r. ⌜ now (out .exit) ≡ childCode which (now (code .entry)) ++ drop (codeLength (axesOf dim) (suc depth)) (now (out .entry)) ⌝ }
 {
-    buffers::copy(code, 0, code.len(), out, 0);
+    buffers::copy_front(code, code.len(), out);
     out[1] = code[1] + 1;
     step_in(out, dim, depth, dim.split_place(depth), which);
 }
@@ -106,7 +106,7 @@ pub fn write_parent(code: &[u8], dim: Dim, depth: usize, out: &mut [u8])
 {
     let own = own_at(code, dim, depth);
     let n = dim.split_place(depth) - 1;
-    buffers::copy(code, 0, dim.code_length(depth), out, 0);
+    buffers::copy_front(code, dim.code_length(depth), out);
     out[1] = code[1] - 1;
     unstep(out, 2, n, own);
 }

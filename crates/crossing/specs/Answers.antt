@@ -1,23 +1,21 @@
 -- The ways out of a crossing, each with what is known there; and a change of a name's entries where more bytes follow them.
 use mathlib.Core.Path.{_≡_, refl, sym, ap, _∙_, subst}
-use mathlib.Core.Bool.{Bool, true, false, cond}
-use mathlib.Core.List.{List, [], _∷_, _++_, append-assoc}
+use mathlib.Core.Bool.{true, false}
+use mathlib.Core.List.{List, _++_}
 use mathlib.Core.Logic.{_≢_}
-use Prim.Native.Nat.{ℕ, zero, suc, _+_, _-_, _≤_, _<_}
+use Prim.Native.Nat.{ℕ, suc, _-_, _≤_, _<_}
 use native.Mathlib.Omega.{arith}
 use lib.Dec.{T}
-use lib.ListN.{length, getD, take, drop, set, length-append, length-set, List·getD-append}
+use lib.ListN.{length, getD, drop, set, length-set, List·getD-append}
 use lib.Seq.{set-append-left}
-use Rattle.dimension.specs.Sizes.{codeLength}
-use Rattle.bisection.specs.Cells.{Cell, cellOf}
-use Rattle.bisection.specs.Codes.{Name, bytes, dimensionOf, depthOf, partsOf, negated, turned}
+use Rattle.bisection.specs.Cells.{cellOf}
+use Rattle.bisection.specs.Codes.{dimensionOf, negated}
 use Rattle.bisection.specs.Refusals.{done, codeRefusal}
-use Rattle.bisection.specs.Facets.{facet, InFace, IsCell, Shares, Across}
+use Rattle.bisection.specs.Facets.{IsCell, Shares}
 use Rattle.bisection.specs.Theorems.CodePaths.{rootOf, pathOf}
 use Rattle.bisection.specs.Theorems.CodeCells.{code-cell, cell-passes}
-use Rattle.bisection.specs.Theorems.Entries.{unturned}
 use Rattle.bisection.specs.Theorems.Passing.{unstepped}
-use Rattle.bisection.specs.Theorems.Table.{Move, swap, farther, nearer, left, right, trade, exchanged, negatedAt, entriesBy}
+use Rattle.bisection.specs.Theorems.Table.{Move, exchanged, negatedAt, entriesBy}
 use Rattle.bisection.specs.Theorems.Crossing.Sound.{Allowed, a-swap, a-far, a-near, a-left, a-right, a-trade}
 use Rattle.bisection.specs.Theorems.Crossing.Rearranged.{exchanged-length, negatedAt-length}
 use Rattle.bisection.specs.Theorems.Neighbour.{isBlocked, tableCode, tablePlace, blocked-is-face, blocked-alone, face-is-blocked, across-unblocked}
@@ -25,7 +23,7 @@ use Rattle.codes.specs.Steps.{turned-append}
 use Rattle.codes.specs.Parents.{unstepped-append}
 use Rattle.codes.specs.Relatives.{checked}
 use Rattle.crossing.specs.declared.Crossed.{Crossed}
-use Rattle.crossing.specs.Outcome.{Refuses, Gives, Walled, Beyond, Meets, wall, short, crossed, Crosses}
+use Rattle.crossing.specs.Outcome.{Refuses, Walled, Beyond, Meets, wall, short, crossed, Crosses}
 
 -- the cell across has a code of the same length
 pub shares-size : {i : ℕ} {code code' : List ℕ} → Shares i code code' → length code' ≡ length code

@@ -1,19 +1,18 @@
 -- The carry through the orthants that stand in a buffer, place by place from the last one, and the flip of one bit.
-use mathlib.Core.Path.{_≡_, refl, sym, ap, _∙_, subst}
+use mathlib.Core.Path.{_≡_, refl, sym, ap, _∙_}
 use mathlib.Core.Bool.{Bool, true, false, not, _&&_}
 use mathlib.Core.List.{List, [], _∷_, _++_, append-assoc}
 use Prim.Native.Nat.{ℕ, suc, _+_, _-_, _*_, _/_, _%_, _^_, _≤_, _<_}
 use native.Mathlib.Omega.{arith}
 use lib.Bits.{bitXor, xor-step, xor-block, xor-zero-r}
 use lib.Pow.{pow-pos}
-use lib.ListN.{length, getD, take, drop, set, length-take, length-drop, length-append, length-set, take-append-drop, List·getD-append}
-use lib.Seq.{drop-cons, drop-length, drop-drop, drop-append-le, take-append-le, take-take, take-suc, append-snoc, set-at, slice, slice-empty, slice-cons, getD-take, length-take-le}
-use Rattle.bisection.specs.Codes.{axis, minus, high}
+use lib.ListN.{length, getD, take, drop, set, take-append-drop, List·getD-append}
+use lib.Seq.{drop-cons, drop-length, drop-drop, drop-append-le, take-take, take-suc, append-snoc, set-at, slice, slice-empty, slice-cons, getD-take, length-take-le}
+use Rattle.bisection.specs.Codes.{high}
 use Rattle.bisection.specs.Refusals.{sameSign}
 use Rattle.bisection.specs.Theorems.Table.{flipped, runsOut, carried}
 use Rattle.bisection.specs.Theorems.Crossing.Flips.{Parts, parts, digit}
 use Rattle.bisection.specs.Theorems.Crossing.Stops.{runsOut-front, carried-front}
-use Rattle.bisection.specs.Theorems.Crossing.Boxes.{carried-length}
 use Rattle.codes.specs.Masks.{shifted-bit}
 
 -- a byte with one bit flipped, as the code's xor makes it
@@ -49,6 +48,10 @@ same-turned true false = refl
 same-turned false true = refl
 same-turned false false = refl
 
+and-true : (b : Bool) → (b && true) ≡ b
+and-true true = refl
+and-true false = refl
+
 module _ (up : Bool) (a : ℕ) (l : List ℕ) where
   -- the orthants from t on are tested, and none stopped the carry
   pub record Running (t : ℕ) : Type 0 where
@@ -62,10 +65,6 @@ module _ (up : Bool) (a : ℕ) (l : List ℕ) where
     one-more : runsOut up a (drop u l) ≡ sameSign (high (getD l u 0) a) up
     unfolding runsOut
     one-more = ap (runsOut up a) (drop-cons l u 0 (omega arith) ∙ ap (λ (j : ℕ). getD l u 0 ∷ drop j l) (sym e)) ∙ rw (s .none-stops) (and-true (sameSign (high (getD l u 0) a) up))
-      where
-        and-true : (b : Bool) → (b && true) ≡ b
-        and-true true = refl
-        and-true false = refl
 
     pub running-next : sameSign up (high (getD l u 0) a) ≡ true → Running u
     running-next q = record { none-stops = one-more ∙ same-turned (high (getD l u 0) a) up ∙ q }
@@ -98,10 +97,6 @@ module _ (n : ℕ) (up : Bool) (a : ℕ) (l : List ℕ) (room : n ≤ length l) 
   unfolding carriedIn carried runsOut
   carrying-none = record { is = rw (slice-empty n l) (sym (take-append-drop n l)); goes-on = rw (slice-empty n l) refl }
 
-  pub carried-size : (t : ℕ) → t ≤ n → length (carriedIn t n up a l) ≡ length l
-  unfolding carriedIn
-  carried-size t h = simp (length-append, carried-length up a (slice t n l), length-drop, length-take) (omega arith)
-
   module _ {t : ℕ} {buf : List ℕ} (s : Carrying n up a l t buf) (u : ℕ) (e : t ≡ suc u) (h : t ≤ n) where
     front : length (take t l) ≡ t
     front = length-take-le t l (omega arith)
@@ -130,10 +125,6 @@ module _ (n : ℕ) (up : Bool) (a : ℕ) (l : List ℕ) (room : n ≤ length l) 
     runs-more : runsOut up a (slice u n l) ≡ sameSign (high (getD l u 0) a) up
     unfolding runsOut
     runs-more = rw (longer, s .goes-on) (and-true (sameSign (high (getD l u 0) a) up))
-      where
-        and-true : (b : Bool) → (b && true) ≡ b
-        and-true true = refl
-        and-true false = refl
 
     goes-on-with : (v : ℕ) → v ≡ flipped a (getD l u 0) → sameSign up (high (getD l u 0) a) ≡ true → Carrying n up a l u (set buf u v)
     goes-on-with v f q = record { is = carrying-is v f; goes-on = runs-more ∙ same-turned (high (getD l u 0) a) up ∙ q }

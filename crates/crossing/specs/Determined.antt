@@ -1,7 +1,7 @@
 -- The contract of crossing determines the answer: two outcomes that it allows for the same input are equal, the three
 -- numbers and every lent cell. And crossing back leads back: from the code that an answer gives, across the place that
 -- it gives, the answer is the first code, byte by byte, and the first facet.
-use mathlib.Core.Path.{_≡_, refl, sym, ap, _∙_, subst}
+use mathlib.Core.Path.{_≡_, sym, ap, _∙_, subst}
 use mathlib.Core.List.{List, _++_}
 use mathlib.Core.Logic.{_≢_}
 use Prim.Native.Nat.{ℕ, _≤_, _<_}
@@ -10,7 +10,7 @@ use native.Mathlib.Decide.{decLt, ℕ-discrete}
 use lib.ListN.{length, take, drop}
 use lib.Seq.{take-at}
 use Rattle.bisection.specs.Codes.{dimensionOf}
-use Rattle.bisection.specs.Refusals.{done, refusedFace, refusedShort, codeRefusal}
+use Rattle.bisection.specs.Refusals.{done, codeRefusal}
 use Rattle.bisection.specs.Facets.{Across}
 use Rattle.bisection.specs.Theorems.CodeCells.{cell-passes}
 use Rattle.bisection.specs.Theorems.Neighbour.{across-determined, across-back}

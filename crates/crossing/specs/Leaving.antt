@@ -1,30 +1,25 @@
 -- A crossing that leaves the box: facet d, and facet 0 at the start of a level. One entry changes its sign, the box
 -- moves against an entry, and the new vertex stands where the old one did.
 use mathlib.Core.Path.{_≡_, refl, sym, ap, _∙_, subst}
-use mathlib.Core.Bool.{Bool, true, false, not}
+use mathlib.Core.Bool.{Bool, false, not}
 use mathlib.Core.List.{List, [], _∷_, _++_, append-assoc}
-use mathlib.Core.Logic.{_≢_}
-use Prim.Native.Nat.{ℕ, zero, suc, _+_, _-_, _≤_, _<_}
+use Prim.Native.Nat.{ℕ, suc, _+_, _-_, _≤_, _<_}
 use native.Mathlib.Omega.{arith}
 use native.Mathlib.Decide.{decLt}
 use lib.Dec.{T}
-use lib.ListN.{length, getD, take, drop, set, length-append, length-take, length-drop, length-set, List·getD-append}
-use lib.Seq.{slice, drop-length, set-append-left, take-at, drop-at, getD-drop, getD-take, take-all}
+use lib.ListN.{length, getD, take, drop, set, length-append}
+use lib.Seq.{slice, drop-length, set-append-left, take-at, drop-at}
 use borrow.Author.Tests.{eq-eqb, ne-eqb}
-use Rattle.dimension.specs.Sizes.{codeLength, splitPlace, boxDepth}
+use Rattle.dimension.specs.Sizes.{codeLength, splitPlace}
 use Rattle.bisection.specs.Codes.{axis, minus, negated, high, Name, bytes, dimensionOf, depthOf, entriesOf, orthantsOf, partsOf}
 use Rattle.bisection.specs.Refusals.{done, codeRefusal}
 use Rattle.bisection.specs.Theorems.Entries.{axis-negated, minus-negated}
-use Rattle.bisection.specs.Theorems.Table.{Move, farther, nearer, move, moveOf, newAt, newPlace, nextOwn, negatedAt, entriesBy, orthantsBy, blockedBy, blocked, acrossName, runsOut, carried}
+use Rattle.bisection.specs.Theorems.Table.{farther, nearer, move, moveOf, newAt, newPlace, nextOwn, negatedAt, entriesBy, orthantsBy, blockedBy, blocked, acrossName, runsOut, carried}
 use Rattle.bisection.specs.Theorems.Crossing.Rearranged.{negatedAt-length}
 use Rattle.bisection.specs.Theorems.Neighbour.{isBlocked, tableCode, tablePlace}
-use Rattle.codes.specs.Buffers.{atPlace, entry-at}
+use Rattle.codes.specs.Buffers.{entry-at}
 use Rattle.codes.specs.Relatives.{Checked, checked}
-use Rattle.crossing.specs.declared.Crossed.{Crossed}
-use Rattle.crossing.specs.Outcome.{Crosses}
 use Rattle.crossing.specs.Carrying.{carriedIn}
-use Rattle.crossing.specs.Rearranging.{set-place}
-use Rattle.crossing.specs.Answers.{negated-append}
 
 -- the row: what the table says, told by the entry e against which the box moves and the place whose sign changes
 pub record Leaving (code : List ℕ) (d at e i : ℕ) : Type 0 where

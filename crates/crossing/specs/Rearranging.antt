@@ -1,31 +1,23 @@
 -- The entries in a buffer, from place 2 on, rearranged as the rule table says where a crossing stays in the box.
 use mathlib.Core.Path.{_≡_, refl, sym, ap, _∙_, subst}
 use mathlib.Core.Bool.{Bool, true, false, cond}
-use mathlib.Core.List.{List, [], _∷_, _++_, append-assoc}
-use mathlib.Core.Logic.{_≢_}
-use Prim.Native.Nat.{ℕ, zero, suc, _+_, _-_, _≤_, _<_}
+use mathlib.Core.List.{List, _++_}
+use Prim.Native.Nat.{ℕ, suc, _+_, _-_, _≤_, _<_}
 use native.Mathlib.Omega.{arith}
 use native.Mathlib.Decide.{ℕ-discrete}
 use lib.Dec.{eqb}
-use lib.ListN.{length, getD, take, drop, set, length-take, length-drop, length-set, List·getD-append, take-append-drop}
-use lib.Seq.{getD-drop, getD-take, getD-set-same, getD-set-other, ext-getD, take-set-le, drop-set-add, set-append-left}
+use lib.ListN.{length, getD, take, drop, set, length-drop, length-set, take-append-drop}
+use lib.Seq.{getD-drop, getD-take, getD-set-same, getD-set-other, ext-getD, take-set-le, drop-set-add}
 use borrow.Author.Tests.{eq-eqb, ne-eqb}
 use Rattle.bisection.specs.Codes.{axis, minus, negated, turned, high}
 use Rattle.bisection.specs.Refusals.{sameSign}
 use Rattle.bisection.specs.Theorems.Entries.{Signed, unturned}
-use Rattle.bisection.specs.Theorems.Table.{Move, swap, farther, nearer, left, right, trade, move, newAt, exchanged, negatedAt, entriesBy}
+use Rattle.bisection.specs.Theorems.Table.{Move, swap, nearer, left, right, trade, move, newAt, exchanged, negatedAt, entriesBy}
 use Rattle.bisection.specs.Theorems.Crossing.Rearranged.{exchanged-first, exchanged-second, exchanged-other, exchanged-length, negatedAt-at, negatedAt-other, negatedAt-length}
 use Rattle.codes.specs.Buffers.{atPlace, entry-at}
 
--- a store at place 2 + t, and two of them
-pub set-place : (l : List ℕ) (t v : ℕ) → set l (2 + t) v ≡ atPlace 2 (λ m. set m t v) l
-unfolding atPlace
-set-place l t v = sym (take-append-drop 2 (set l (2 + t) v)) ∙ rw (take-set-le 2 l (2 + t) v (omega arith), drop-set-add 2 l t v) refl
-
-two-length : (l : List ℕ) → 2 ≤ length l → length (take 2 l) ≡ 2
-two-length l h = simp length-take (omega arith)
-
-pub set-places : (l : List ℕ) (t u v w : ℕ) → set (set l (2 + t) v) (2 + u) w ≡ atPlace 2 (λ m. set (set m t v) u w) l
+-- two stores at places from 2 on
+set-places : (l : List ℕ) (t u v w : ℕ) → set (set l (2 + t) v) (2 + u) w ≡ atPlace 2 (λ m. set (set m t v) u w) l
 unfolding atPlace
 set-places l t u v w = sym (take-append-drop 2 (set (set l (2 + t) v) (2 + u) w))
     ∙ rw (take-set-le 2 (set l (2 + t) v) (2 + u) w (omega arith), take-set-le 2 l (2 + t) v (omega arith), drop-set-add 2 (set l (2 + t) v) u w, drop-set-add 2 l t v) refl

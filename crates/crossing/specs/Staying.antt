@@ -2,21 +2,19 @@
 -- always a cell across.
 use mathlib.Core.Path.{_≡_, refl, sym, ap, _∙_, subst}
 use mathlib.Core.Bool.{Bool, true, false, cond}
-use mathlib.Core.List.{List, [], _∷_, _++_, append-assoc}
-use mathlib.Core.Logic.{_≢_}
-use Prim.Native.Nat.{ℕ, zero, suc, _+_, _-_, _≤_, _<_}
+use mathlib.Core.List.{List, _∷_, _++_, append-assoc}
+use Prim.Native.Nat.{ℕ, suc, _+_, _≤_, _<_}
 use native.Mathlib.Omega.{arith}
 use native.Mathlib.Decide.{decLt}
 use lib.Dec.{eqb}
-use lib.ListN.{length, getD, take, drop, length-append, List·getD-append}
+use lib.ListN.{length, getD, drop, length-append, List·getD-append}
 use lib.Seq.{take-at}
-use borrow.Author.Tests.{eq-eqb, ne-eqb}
-use Rattle.dimension.specs.Sizes.{codeLength, splitPlace, boxDepth}
+use borrow.Author.Tests.{ne-eqb}
+use Rattle.dimension.specs.Sizes.{codeLength, splitPlace}
 use Rattle.dimension.specs.Laws.{split-range}
 use Rattle.bisection.specs.Codes.{axis, minus, high, Name, bytes, dimensionOf, depthOf, entriesOf, orthantsOf, partsOf}
 use Rattle.bisection.specs.Refusals.{done, sameSign, ownMinus, codeRefusal}
-use Rattle.bisection.specs.Theorems.Entries.{Signed}
-use Rattle.bisection.specs.Theorems.Table.{Move, swap, left, right, trade, move, moveOf, newAt, newPlace, nextOwn, entriesBy, orthantsBy, blockedBy, blocked, acrossName}
+use Rattle.bisection.specs.Theorems.Table.{swap, left, right, trade, moveOf, newPlace, nextOwn, entriesBy, orthantsBy, blockedBy, blocked, acrossName}
 use Rattle.bisection.specs.Theorems.Crossing.Moves.{view}
 use Rattle.bisection.specs.Theorems.Crossing.Sound.{Allowed, allowed}
 use Rattle.bisection.specs.Theorems.Neighbour.{isBlocked, tableCode, tablePlace}

@@ -1,4 +1,4 @@
-// Crossing a facet: the cell across it in the same depth, and the place of its new vertex. The entry takes any bytes
+// Crossing a facet: the cell across it at the same depth, and the place of its new vertex. The entry takes any bytes
 // and numbers; an early `return` for each refusal stands in document 01's order, and nothing is written before the
 // last refusal is past. A crossing stays in the cell's box, where it rearranges the entries, or leaves it for the
 // box beside it, where the orthants change by carry.
@@ -6,13 +6,11 @@ ghost use mathlib.Core.Path.{_≡_};
 ghost use mathlib.Core.Bool.{cond};
 ghost use mathlib.Core.List.{_++_};
 ghost use Prim.Native.Nat.{_+_, _-_, _≤_, _<_};
-ghost use lib.ListN.{length, getD, drop};
-ghost use Rattle.bisection.specs.Codes.{axis, minus, high};
-ghost use Rattle.bisection.specs.Refusals.{sameSign};
+ghost use lib.ListN.{length, drop};
+ghost use Rattle.bisection.specs.Codes.{axis, minus};
 ghost use Rattle.bisection.specs.Theorems.Table.{left, right, trade, swap, exchanged, flipped, runsOut};
 ghost use Rattle.codes.specs.Buffers.{atPlace};
 ghost use Rattle.crossing.specs.Outcome.{Crosses};
-ghost use Rattle.crossing.specs.Copying.{CopiesFour};
 ghost use Rattle.crossing.specs.Carrying.{carriedIn};
 ghost use Rattle.crossing.specs.Rearranging.{traded, ownNext, Rearranges, Movable, MovableAt, within};
 ghost use Rattle.crossing.specs.Leaving.{Leaving};
@@ -44,35 +42,6 @@ fn refused(refusal: u8) -> Crossed
         place: 0,
         length: 0,
     }
-}
-
-// Copies the four bytes from place `at` on, all read before one is written.
-fn copy_four(src: &[u8], at: usize, dst: &mut [u8])
-    requires { ⌜ (at + 4 ≤ length (now src)) × (at + 4 ≤ length (now dst)) ⌝ }
-    ensures { λ r. ⌜ CopiesFour at (now (src .entry)) (now (dst .entry)) (now (dst .exit)) ⌝ }
-{
-    let a = src[at];
-    let b = src[at + 1];
-    let c = src[at + 2];
-    let d = src[at + 3];
-    dst[at] = a;
-    dst[at + 1] = b;
-    dst[at + 2] = c;
-    dst[at + 3] = d;
-}
-
-// Copies a code to the buffer's front, four bytes at a time; the last four may have been copied in part.
-fn copy_code(code: &[u8], out: &mut [u8])
-    requires { ⌜ (4 ≤ length (now code)) × (length (now code) ≤ length (now out)) ⌝ }
-    ensures { λ r. ⌜ now (out .exit) ≡ now (code .entry) ++ drop (length (now (code .entry))) (now (out .entry)) ⌝ }
-{
-    let last = code.len() - 4;
-    let mut i: usize = 0;
-    while i < last {
-        copy_four(code, i, out);
-        i += 4;
-    }
-    copy_four(code, last, out);
 }
 
 // The orthant byte with its bit of the axis flipped.
@@ -190,7 +159,7 @@ fn cross_inside(code: &[u8], d: usize, k: usize, facet: u8, out: &mut [u8]) -> C
     }
     let own = check::own_byte(code, d);
     let i = entries::size(facet);
-    copy_code(code, out);
+    buffers::copy_front(code, length, out);
     let place = rearrange(out, k, i, own);
     Crossed {
         refusal: DONE,
@@ -213,7 +182,7 @@ fn cross_outside(code: &[u8], d: usize, at: usize, e: u8, facet: u8, out: &mut [
         return refused(REFUSED_SHORT);
     }
     let turned = entries::negate(code[2 + at]);
-    copy_code(code, out);
+    buffers::copy_front(code, length, out);
     out[2 + at] = turned;
     carry(out, 2 + d, length, e);
     Crossed {

@@ -1,8 +1,5 @@
 -- `across_split` meets its contract: the sign of entry k + 1 decides between the two rows of facet k.
-use mathlib.Core.Path.{_≡_, refl, sym, ap, _∙_}
-use Prim.Native.Nat.{ℕ, suc, _+_, _-_, _≤_, _<_}
-use lib.ListN.{length, getD, take, drop, length-set}
-use native.Mathlib.Omega.{arith}
+use mathlib.Core.Path.{sym, _∙_}
 use Rattle.crossing.specs.Rearranging.{split-own, split-against}
 use borrow.Author.Needs.{needs}
 use Rattle.crossing.proofs.across_split.Statement.{statement}

@@ -1,11 +1,10 @@
 -- `carry` meets its contract. The loop keeps: the carry flipped the orthants from t on, and none of them stopped it.
-use mathlib.Core.Path.{_≡_, refl, sym, ap, _∙_}
-use Prim.Native.Nat.{ℕ, suc, _+_, _-_, _≤_, _<_}
-use lib.ListN.{length, getD, take, drop, length-set}
+use mathlib.Core.Path.{_≡_, refl, sym, _∙_}
+use Prim.Native.Nat.{_-_, _≤_}
+use lib.ListN.{length, length-set}
 use native.Mathlib.Omega.{arith}
 use borrow.Author.Tests.{not-true, not-false}
 use Rattle.bisection.specs.Codes.{axis, minus}
-use Rattle.bisection.specs.Theorems.Table.{flipped}
 use Rattle.crossing.specs.Carrying.{Carrying, carrying-none, carrying-next, carrying-stopped, carrying-all}
 use borrow.Author.Needs.{needs}
 use Rattle.crossing.proofs.carry.Statement.{statement}

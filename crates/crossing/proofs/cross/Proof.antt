@@ -1,7 +1,5 @@
 -- `cross` meets its contract: each refusal in its order, and the row of the facet, which leaves the box or stays in it.
-use mathlib.Core.Path.{_≡_, refl, sym, ap, _∙_}
-use Prim.Native.Nat.{ℕ, suc, _+_, _-_, _≤_, _<_}
-use lib.ListN.{length, getD, take, drop, length-set}
+use mathlib.Core.Path.{refl, sym, _∙_}
 use native.Mathlib.Omega.{arith}
 use mathlib.Core.Logic.{⊎-elim}
 use Rattle.bisection.specs.Codes.{dimensionOf, depthOf}

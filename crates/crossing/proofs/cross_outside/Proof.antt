@@ -1,10 +1,10 @@
 -- `cross_outside` meets its contract: refusal 8 where the carry runs out, 11, or the code copied, one sign changed and the box moved by carry.
-use mathlib.Core.Path.{_≡_, refl, sym, ap, _∙_}
-use Prim.Native.Nat.{ℕ, suc, _+_, _-_, _≤_, _<_}
-use lib.ListN.{length, getD, take, drop, length-set}
+use mathlib.Core.Path.{refl, sym, _∙_}
+use lib.ListN.{length-set}
 use native.Mathlib.Omega.{arith}
 use Rattle.crossing.specs.Answers.{refused-wall, refused-short, given}
 use Rattle.crossing.specs.Leaving.{leaving-room, leaving-long, leaving-at, leaving-few, leaving-wall, leaving-some, leaving-facet, leaving-axis, leaving-written}
+use Rattle.codes.specs.Copying.{whole-front}
 use borrow.Author.Needs.{needs}
 use Rattle.crossing.proofs.cross_outside.Statement.{statement}
 use Rattle.crossing.proofs.cross_outside.Tie as tie
@@ -36,8 +36,8 @@ shared-slice-read-negate c = leaving-at (c .before .before .before .before .befo
 negate-requires : tie.Need-negate-requires
 negate-requires c κs = leaving-axis (c .before .before .before .before .before .before .pre)
 
-copy-code-requires : tie.Need-copy-code-requires
-copy-code-requires c κs = (leaving-long (c .before .before .before .before .before .before .before .before .pre), c .before .before .before .if2 .left)
+copy-front-requires : tie.Need-copy-front-requires
+copy-front-requires c κs = (leaving-long (c .before .before .before .before .before .before .before .before .pre), omega arith, c .before .before .before .if2 .left)
 
 add-out : tie.Need-add-out
 add-out c = omega (arith, leaving-few (c .before .before .before .before .before .before .before .before .before .before .before .pre), c .before .before .before .before .before .before .before .before .before .before .before .pre .place)
@@ -55,7 +55,7 @@ same-length : tie.Need-same-length
 same-length c = c .before .out2 .given ∙ simp length-set (c .before .before .before .before .before .out .given)
 
 returns-3 : tie.Need-returns-3
-returns-3 c = given (c .before .before .before .before .before .before .before .before .before .before .before .before .before .before .before .pre .passes) (leaving-facet (c .before .before .before .before .before .before .before .before .before .before .before .before .before .before .before .pre)) (leaving-wall (c .before .before .before .before .before .before .before .before .before .before .before .before .before .before .before .pre) _ (c .before .before .before .before .before .before .before .before .before .before .before .before .runs-out .ensures) ∙ c .before .before .before .before .before .before .before .before .before .before .before .if1 .left) (c .before .before .before .before .before .before .before .before .before .before .if2 .left) refl (sym (c .before .before .before .before .before .before .before .before .before .before .before .before .before .before .before .pre .new)) refl _ (c .before .before .carry .ensures ∙ (rw (c .before .before .before .before .before .before .copy-code .ensures) (leaving-written (c .before .before .before .before .before .before .before .before .before .before .before .before .before .before .before .pre) (c .before .before .before .before .before .before .before .before .before .before .before .before .before .before .before .args .out .now) _ (c .before .before .before .before .before .before .before .before .negate .ensures))))
+returns-3 c = given (c .before .before .before .before .before .before .before .before .before .before .before .before .before .before .before .pre .passes) (leaving-facet (c .before .before .before .before .before .before .before .before .before .before .before .before .before .before .before .pre)) (leaving-wall (c .before .before .before .before .before .before .before .before .before .before .before .before .before .before .before .pre) _ (c .before .before .before .before .before .before .before .before .before .before .before .before .runs-out .ensures) ∙ c .before .before .before .before .before .before .before .before .before .before .before .if1 .left) (c .before .before .before .before .before .before .before .before .before .before .if2 .left) refl (sym (c .before .before .before .before .before .before .before .before .before .before .before .before .before .before .before .pre .new)) refl _ (c .before .before .carry .ensures ∙ (rw (c .before .before .before .before .before .before .copy-front .ensures ∙ whole-front (c .before .before .before .before .before .before .before .before .before .before .before .before .before .before .before .args .code .now) (c .before .before .before .before .before .before .before .before .before .before .before .before .before .before .before .args .out .now)) (leaving-written (c .before .before .before .before .before .before .before .before .before .before .before .before .before .before .before .pre) (c .before .before .before .before .before .before .before .before .before .before .before .before .before .before .before .args .out .now) _ (c .before .before .before .before .before .before .before .before .negate .ensures))))
 
 pub cross-outside-spec : {M : Type 1} → statement M
 cross-outside-spec =
@@ -70,7 +70,7 @@ cross-outside-spec =
     add-negate
     shared-slice-read-negate
     negate-requires
-    copy-code-requires
+    copy-front-requires
     add-out
     slice-write-out
     add-carry

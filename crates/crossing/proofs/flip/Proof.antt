@@ -1,8 +1,4 @@
 -- `flip` meets its contract: the shifted bit fits a byte, and xor flips it alone.
-use mathlib.Core.Path.{_≡_, refl, sym, ap, _∙_}
-use Prim.Native.Nat.{ℕ, suc, _+_, _-_, _≤_, _<_}
-use lib.ListN.{length, getD, take, drop, length-set}
-use native.Mathlib.Omega.{arith}
 use Rattle.crossing.specs.Carrying.{flipped-as}
 use borrow.Author.Needs.{needs}
 use Rattle.crossing.proofs.flip.Statement.{statement}

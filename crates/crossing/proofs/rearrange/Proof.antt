@@ -1,7 +1,4 @@
 -- `rearrange` meets its contract: facet 0, facet k, and the others.
-use mathlib.Core.Path.{_≡_, refl, sym, ap, _∙_}
-use Prim.Native.Nat.{ℕ, suc, _+_, _-_, _≤_, _<_}
-use lib.ListN.{length, getD, take, drop, length-set}
 use native.Mathlib.Omega.{arith}
 use Rattle.crossing.specs.Rearranging.{at-first, at-same, within-first, within-split, within-other}
 use borrow.Author.Needs.{needs}

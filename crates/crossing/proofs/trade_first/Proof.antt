@@ -1,8 +1,4 @@
 -- `trade_first` meets its contract: two stores of negated entries.
-use mathlib.Core.Path.{_≡_, refl, sym, ap, _∙_}
-use Prim.Native.Nat.{ℕ, suc, _+_, _-_, _≤_, _<_}
-use lib.ListN.{length, getD, take, drop, length-set}
-use native.Mathlib.Omega.{arith}
 use Rattle.crossing.specs.Rearranging.{trade-is}
 use borrow.Author.Needs.{needs}
 use Rattle.crossing.proofs.trade_first.Statement.{statement}

@@ -3,13 +3,13 @@ use mathlib.Core.Path.{_≡_, refl, sym, ap, _∙_, subst}
 use Prim.Native.Nat.{ℕ, suc, _+_, _-_, _≤_, _<_}
 use lib.ListN.{length, getD, take, drop, length-set}
 use native.Mathlib.Omega.{arith}
-use Rattle.codes.specs.Relatives.{child-fits, child-two, child-depth, child-byte, child-copied, child-ready, child-written}
+use Rattle.codes.specs.Relatives.{child-fits, child-four, child-two, child-depth, child-byte, child-copied, child-ready, child-written}
 use borrow.Author.Needs.{needs}
 use Rattle.codes.proofs.steps.write_child.Statement.{statement}
 use Rattle.codes.proofs.steps.write_child.Tie as tie
 
-copy-requires : tie.Need-copy-requires
-copy-requires c κs = (omega arith, omega (arith, child-fits (c .before .before .before .pre)))
+copy-front-requires : tie.Need-copy-front-requires
+copy-front-requires c κs = (child-four (c .before .before .before .pre), omega arith, child-fits (c .before .before .before .pre))
 
 shared-slice-read-out : tie.Need-shared-slice-read-out
 shared-slice-read-out c = omega (arith, child-two (c .before .before .before .before .before .before .before .pre))
@@ -18,25 +18,25 @@ add-out : tie.Need-add-out
 add-out c = record { fits = child-byte (c .before .before .before .before .before .before .before .pre) }
 
 slice-write-out : tie.Need-slice-write-out
-slice-write-out c = omega (arith, ap length (c .before .before .before .copy .ensures), child-copied (c .before .before .before .before .before .before .before .pre), child-two (c .before .before .before .before .before .before .before .pre), child-fits (c .before .before .before .before .before .before .before .pre))
+slice-write-out c = omega (arith, ap length (c .before .before .before .copy-front .ensures), child-copied (c .before .before .before .before .before .before .before .pre), child-two (c .before .before .before .before .before .before .before .pre), child-fits (c .before .before .before .before .before .before .before .pre))
 
 split-place-requires : tie.Need-split-place-requires
 split-place-requires c κs = search needs
 
 step-in-requires : tie.Need-step-in-requires
-step-in-requires c κs = let r = child-ready (c .before .before .before .before .before .before .before .before .before .pre) _ in rw (c .before .before .before .before .before .copy .ensures) (r .0, r .1, c .split-place .ensures)
+step-in-requires c κs = let r = child-ready (c .before .before .before .before .before .before .before .before .before .pre) _ in rw (c .before .before .before .before .before .copy-front .ensures) (r .0, r .1, c .split-place .ensures)
 
 same-length : tie.Need-same-length
-same-length c = c .before .before .step-in .ensures .size ∙ (simp length-set (ap length (c .before .before .before .before .before .before .before .before .copy .ensures) ∙ child-copied (c .before .before .before .before .before .before .before .before .before .before .before .before .pre)))
+same-length c = c .before .before .step-in .ensures .size ∙ (simp length-set (ap length (c .before .before .before .before .before .before .before .before .copy-front .ensures) ∙ child-copied (c .before .before .before .before .before .before .before .before .before .before .before .before .pre)))
 
 returns : tie.Need-returns
-returns c = child-written (c .before .before .before .before .before .before .before .before .before .before .before .before .pre) (c .before .before .before .before .before .before .before .before .before .before .before .before .args .which) _ _ (child-depth (c .before .before .before .before .before .before .before .before .before .before .before .before .pre)) (rw (c .before .before .before .before .before .before .before .before .copy .ensures) at (c .before .before .step-in .ensures))
+returns c = child-written (c .before .before .before .before .before .before .before .before .before .before .before .before .pre) (c .before .before .before .before .before .before .before .before .before .before .before .before .args .which) _ _ (child-depth (c .before .before .before .before .before .before .before .before .before .before .before .before .pre)) (rw (c .before .before .before .before .before .before .before .before .copy-front .ensures) at (c .before .before .step-in .ensures))
 
 pub write-child-spec : {M : Type 1} → statement M
 write-child-spec =
     tie.close
     (tie.spec
-    copy-requires
+    copy-front-requires
     shared-slice-read-out
     add-out
     slice-write-out

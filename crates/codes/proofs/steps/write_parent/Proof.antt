@@ -6,7 +6,7 @@ use lib.ListN.{length, getD, take, drop, length-set}
 use native.Mathlib.Omega.{arith}
 use Rattle.dimension.specs.Sizes.{codeLength}
 use Rattle.bisection.specs.Codes.{depthOf}
-use Rattle.codes.specs.Parents.{parent-front, parent-two, parent-split, parent-byte, parent-size, parent-ready, parent-written}
+use Rattle.codes.specs.Parents.{parent-front, parent-four, parent-two, parent-split, parent-byte, parent-size, parent-ready, parent-written}
 use borrow.Author.Needs.{needs}
 use Rattle.codes.proofs.steps.write_parent.Statement.{statement}
 use Rattle.codes.proofs.steps.write_parent.Tie as tie
@@ -23,8 +23,8 @@ sub-n c = omega (arith, c .split-place .ensures, parent-split (c .before .before
 code-length-requires : tie.Need-code-length-requires
 code-length-requires c κs = search needs
 
-copy-requires : tie.Need-copy-requires
-copy-requires c κs = (omega (arith, c .before .code-length .ensures, parent-front (c .before .before .before .before .before .before .pre)), omega (arith, c .before .code-length .ensures, c .before .before .before .before .before .before .pre .room))
+copy-front-requires : tie.Need-copy-front-requires
+copy-front-requires c κs = (omega (arith, c .before .code-length .ensures, parent-four (c .before .before .before .before .before .before .pre)), omega (arith, c .before .code-length .ensures, parent-front (c .before .before .before .before .before .before .pre)), omega (arith, c .before .code-length .ensures, c .before .before .before .before .before .before .pre .room))
 
 shared-slice-read-out : tie.Need-shared-slice-read-out
 shared-slice-read-out c = omega (arith, parent-two (c .before .before .before .before .before .before .before .before .before .before .pre))
@@ -35,16 +35,16 @@ sub-out c = omega (arith, c .before .before .before .before .before .before .bef
 
 slice-write-out : tie.Need-slice-write-out
 unfolding codeLength
-slice-write-out c = omega (arith, ap length (c .before .before .before .copy .ensures), parent-size (c .before .before .before .before .before .before .before .before .before .before .pre) _ (c .before .before .before .before .before .code-length .ensures), c .before .before .before .before .before .before .before .before .before .before .pre .room)
+slice-write-out c = omega (arith, ap length (c .before .before .before .copy-front .ensures), parent-size (c .before .before .before .before .before .before .before .before .before .before .pre) _ (c .before .before .before .before .before .code-length .ensures), c .before .before .before .before .before .before .before .before .before .before .pre .room)
 
 unstep-requires : tie.Need-unstep-requires
-unstep-requires c κs = rw (c .before .before .before .before .copy .ensures) (parent-ready (c .before .before .before .before .before .before .before .before .before .before .before .pre) _ _ _ (c .before .before .before .before .before .before .code-length .ensures) (ap (λ (k : ℕ). k - 1) (c .before .before .before .before .before .before .before .split-place .ensures)))
+unstep-requires c κs = rw (c .before .before .before .before .copy-front .ensures) (parent-ready (c .before .before .before .before .before .before .before .before .before .before .before .pre) _ _ _ (c .before .before .before .before .before .before .code-length .ensures) (ap (λ (k : ℕ). k - 1) (c .before .before .before .before .before .before .before .split-place .ensures)))
 
 same-length : tie.Need-same-length
 same-length c = c .before .out2 .given ∙ simp length-set (c .before .before .before .before .before .before .out .given)
 
 returns : tie.Need-returns
-returns c = parent-written (c .before .before .before .before .before .before .before .before .before .before .before .before .before .before .pre) _ _ _ _ _ _ (c .before .before .before .before .before .before .before .before .before .code-length .ensures) (parent-byte (c .before .before .before .before .before .before .before .before .before .before .before .before .before .before .pre)) (ap (λ (k : ℕ). k - 1) (c .before .before .before .before .before .before .before .before .before .before .split-place .ensures)) (c .before .before .before .before .before .before .before .before .before .before .before .own-at .ensures) (rw (c .before .before .before .before .before .before .before .copy .ensures) at (c .before .before .unstep .ensures))
+returns c = parent-written (c .before .before .before .before .before .before .before .before .before .before .before .before .before .before .pre) _ _ _ _ _ _ (c .before .before .before .before .before .before .before .before .before .code-length .ensures) (parent-byte (c .before .before .before .before .before .before .before .before .before .before .before .before .before .before .pre)) (ap (λ (k : ℕ). k - 1) (c .before .before .before .before .before .before .before .before .before .before .split-place .ensures)) (c .before .before .before .before .before .before .before .before .before .before .before .own-at .ensures) (rw (c .before .before .before .before .before .before .before .copy-front .ensures) at (c .before .before .unstep .ensures))
 
 pub write-parent-spec : {M : Type 1} → statement M
 write-parent-spec =
@@ -54,7 +54,7 @@ write-parent-spec =
     split-place-requires
     sub-n
     code-length-requires
-    copy-requires
+    copy-front-requires
     shared-slice-read-out
     sub-out
     slice-write-out

@@ -1,11 +1,11 @@
--- A code copied to a buffer's front, four bytes at a time.
+-- The front of a code copied to a buffer's front, four bytes at a time.
 use mathlib.Core.Path.{_≡_, refl, sym, ap, _∙_}
 use mathlib.Core.List.{List, _++_}
 use Prim.Native.Nat.{ℕ, _+_, _-_, _≤_, _<_}
 use native.Mathlib.Omega.{arith}
 use native.Mathlib.Decide.{decLt, ℕ-discrete}
-use lib.ListN.{length, getD, drop, set, length-append, length-drop, length-set, List·getD-append}
-use lib.Seq.{getD-drop, getD-append-add, getD-set-same, getD-set-other, ext-getD}
+use lib.ListN.{length, getD, take, drop, set, length-append, length-take, length-drop, length-set, List·getD-append}
+use lib.Seq.{getD-drop, getD-take, take-all, getD-append-add, getD-set-same, getD-set-other, ext-getD}
 
 -- four bytes from a place on are copied, and the others stay
 pub record CopiesFour (at : ℕ) (src dst r : List ℕ) : Type 0 where
@@ -89,16 +89,24 @@ module _ {code out : List ℕ} {i : ℕ} {buf r : List ℕ} (s : Copying code ou
   pub copying-next : CopiesFour i code buf r → Copying code out (i + 4) r
   copying-next f = copying-to i f (omega arith) (omega arith)
 
-  pub copying-last : (last : ℕ) → CopiesFour last code buf r → last ≤ i → i ≤ last + 4 → last + 4 ≡ length code → length code ≤ length out → r ≡ code ++ drop (length code) out
-  copying-last last f l u e h = ext-getD 0 r (code ++ drop (length code) out) (t .size ∙ sym size) (λ j q. go j (decLt j (length code)))
+  pub copying-last : (n last : ℕ) → CopiesFour last code buf r → last ≤ i → i ≤ last + 4 → last + 4 ≡ n → n ≤ length code → n ≤ length out → r ≡ take n code ++ drop n out
+  copying-last n last f l u e g h = ext-getD 0 r (take n code ++ drop n out) (t .size ∙ sym size) (λ j q. go j (decLt j n))
     where
       t : Copying code out (last + 4) r
       t = copying-to last f l u
-      size : length (code ++ drop (length code) out) ≡ length out
-      size = simp (length-append, length-drop) (omega arith)
-      go : (j : ℕ) → Dec (j < length code) → getD r j 0 ≡ getD (code ++ drop (length code) out) j 0
-      go j (yes q) = t .copied j (omega arith) ∙ sym (List·getD-append code (drop (length code) out) 0 j q)
-      go j (no q) = t .past j (omega arith) ∙ sym (ap (λ (x : ℕ). getD (code ++ drop (length code) out) x 0) there ∙ getD-append-add code (drop (length code) out) (j - length code) 0 ∙ getD-drop (length code) out (j - length code) 0 ∙ ap (λ (x : ℕ). getD out x 0) (sym there))
+      front : length (take n code) ≡ n
+      front = simp length-take (omega arith)
+      size : length (take n code ++ drop n out) ≡ length out
+      size = length-append (take n code) (drop n out) ∙ rw front (simp length-drop (omega arith))
+      go : (j : ℕ) → Dec (j < n) → getD r j 0 ≡ getD (take n code ++ drop n out) j 0
+      go j (yes q) = t .copied j (omega arith) ∙ sym (List·getD-append (take n code) (drop n out) 0 j (omega (arith, front)) ∙ getD-take n code j 0 q)
+      go j (no q) = t .past j (omega arith) ∙ sym (ap (λ (x : ℕ). getD (take n code ++ drop n out) x 0) there ∙ getD-append-add (take n code) (drop n out) (j - n) 0 ∙ getD-drop n out (j - n) 0 ∙ ap (λ (x : ℕ). getD out x 0) back)
         where
-          there : j ≡ length code + (j - length code)
-          there = omega arith
+          there : j ≡ length (take n code) + (j - n)
+          there = omega (arith, front)
+          back : n + (j - n) ≡ j
+          back = omega arith
+
+-- a whole code
+pub whole-front : (code out : List ℕ) → take (length code) code ++ drop (length code) out ≡ code ++ drop (length code) out
+whole-front code out = ap (λ (l : List ℕ). l ++ drop (length code) out) (take-all (length code) code (omega arith))

@@ -3,10 +3,10 @@ use mathlib.Core.Path.{_≡_, refl, sym, ap, _∙_}
 use Prim.Native.Nat.{ℕ, suc, _+_, _-_, _≤_, _<_}
 use lib.ListN.{length, getD, take, drop, length-set}
 use native.Mathlib.Omega.{arith}
-use Rattle.crossing.specs.Copying.{copies-four}
+use Rattle.codes.specs.Copying.{copies-four}
 use borrow.Author.Needs.{needs}
-use Rattle.crossing.proofs.copy_four.Statement.{statement}
-use Rattle.crossing.proofs.copy_four.Tie as tie
+use Rattle.codes.proofs.buffers.copy_four.Statement.{statement}
+use Rattle.codes.proofs.buffers.copy_four.Tie as tie
 
 shared-slice-read-a : tie.Need-shared-slice-read-a
 shared-slice-read-a c = search needs
