@@ -64,6 +64,17 @@ pub fn place_after(d: usize, k: usize) -> usize
     k - 1
 }
 
+// The split place one step up.
+pub fn place_before(d: usize, k: usize) -> usize
+    requires { ⌜ (k ≤ d) × (d ≤ 8) ⌝ }
+    ensures { λ r. ⌜ r ≡ cond (eqb k d) 1 (k + 1) ⌝ }
+{
+    if k == d {
+        return 1;
+    }
+    k + 1
+}
+
 // Takes back the last step of the entries from `at` on: entry n tells it by its sign against the parent's box.
 pub fn unstep(buf: &mut [u8], at: usize, n: usize, own: u8) -> u8
     requires { ⌜ (at + n < length (now buf)) × (1 ≤ axis (getD (now buf) (at + n) 0)) × (axis (getD (now buf) (at + n) 0) ≤ 8) ⌝ }

@@ -46,11 +46,14 @@ pub fn walk_up(code: &[u8], dim: Dim, depth: usize, root: &mut [u8], path: &mut 
     requires { ⌜ ClimbReady (axesOf dim) depth (now code) (now root) (now path) ⌝ }
     ensures { λ r. ⌜ Climbed (axesOf dim) depth (now (code .entry)) 0 (now (root .entry)) (now (path .entry)) (now (root .exit)) (now (path .exit)) ⌝ }
 {
+    let d = dim.axes();
+    let mut k = dim.split_place(depth);
     let mut t: usize = depth;
     while 0 < t {
         t -= 1;
+        k = steps::place_before(d, k);
         let own = steps::own_at(code, dim, t);
-        let n = dim.split_place(t) - 1;
+        let n = k - 1;
         path[t] = steps::unstep(root, 0, n, own);
     }
 }
