@@ -176,6 +176,22 @@ rmk_written rmk_parent(const uint8_t *code, size_t code_length, uint8_t *out, si
 rmk_crossed rmk_cross(const uint8_t *code, size_t code_length, uint8_t facet, uint8_t *out,
                       size_t out_length);
 
+/** Sheet check: does a byte string list, in tree order, the leaves of a forest on all d! roots?
+ * \param [in] sheet    The sheet: for each leaf the mark 43 4C, the code, and d + 1 samples of two
+ *                      bytes, low byte first.
+ * \return              The refusal, its offset, and the number of records of a good sheet. An early end
+ *                      is refused at the sheet's length.
+ *
+ * Refusals, in order:  for each record in turn RMK_REFUSED_RECORD (mark, or fewer than two bytes after
+ *                      it), DIMENSION, DEPTH, RECORD (code cut short), PERMUTATION, ORTHANT, SIGN,
+ *                      RECORD (samples cut short), LEAF. Bytes after the completing leaf are read as
+ *                      one more record.
+ * Assumed:             `sheet` is non-null and valid for `sheet_length` bytes.
+ * Example:             43 4C 02 00 01 02 0A 00 14 00 32 00  43 4C 02 00 02 01 0A 00 1E 00 32 00 is
+ *                      done with 2 records; its first 12 bytes are RMK_REFUSED_LEAF, offset 12.
+ */
+rmk_sheet_answer rmk_sheet_check(const uint8_t *sheet, size_t sheet_length);
+
 #ifdef __cplusplus
 }
 #endif

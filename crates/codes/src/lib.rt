@@ -4,7 +4,7 @@
 pub mod entries; // entries.rt: signed entries and orthant bytes
 pub mod check; // check.rt: the walks that test a body
 pub mod buffers; // buffers.rt: entries in a lent buffer
-mod steps; // steps.rt: one step on, one step back
+pub mod steps; // steps.rt: one step on, one step back
 mod corners; // corners.rt: the vertices of a cell
 mod walks; // walks.rt: a whole path down, a whole path up
 

@@ -4,10 +4,12 @@ ghost use mathlib.Core.Path.{_≡_};
 ghost use Rattle.bisection.specs.Refusals.{codeRefusal};
 ghost use Rattle.codes.specs.Outcomes.{PathToCode, CodeToPath, Vertices, Child, Parent};
 ghost use Rattle.crossing.specs.Outcome.{Crosses};
+ghost use Rattle.sheets.specs.Sheets.{SheetIs};
 
 use codes::PathWritten;
 use codes::Written;
 use crossing::Crossed;
+use sheets::SheetAnswer;
 
 #[no_mangle]
 pub extern "C" fn rmk_code_check(code: &[u8]) -> u8
@@ -56,4 +58,11 @@ pub extern "C" fn rmk_cross(code: &[u8], facet: u8, out: &mut [u8]) -> Crossed
     ensures { λ r. ⌜ Crosses (now (code .entry)) facet (now (out .entry)) r (now (out .exit)) ⌝ }
 {
     crossing::cross(code, facet, out)
+}
+
+#[no_mangle]
+pub extern "C" fn rmk_sheet_check(sheet: &[u8]) -> SheetAnswer
+    ensures { λ r. ⌜ SheetIs (now (sheet .entry)) r ⌝ }
+{
+    sheets::sheet_check(sheet)
 }

@@ -1,0 +1,60 @@
+-- `number` meets its contract. The loop keeps: n is the number that the entries before place i give.
+use mathlib.Core.Path.{_≡_, refl, sym, ap, _∙_, subst}
+use Prim.Native.Nat.{ℕ, suc, _+_, _-_, _*_, _^_, _≤_, _<_}
+use native.Mathlib.Omega.{arith}
+use native.Mathlib.Numerals.{add-one}
+use lib.ListN.{length, getD}
+use Rattle.positions.specs.RootNumbers.{numberIn, smaller-few, number-few, number-times, number-more}
+use borrow.Author.Needs.{needs}
+use Rattle.positions.proofs.number.Statement.{statement}
+use Rattle.positions.proofs.number.Tie as tie
+
+abbrev Inv-loop : tie.InvT-loop
+Inv-loop root d n₀ i₀ n i = (i ≤ d) × (n ≡ numberIn d root i)
+
+abbrev μ-loop : tie.MeasureT-loop
+μ-loop root d n₀ i₀ n i = d - i
+
+loop-holds : tie.Need-loop-holds Inv-loop μ-loop
+unfolding numberIn
+loop-holds c = (omega arith, refl)
+
+sub-n : tie.Need-sub-n Inv-loop μ-loop
+sub-n c = search needs
+
+mul-n : tie.Need-mul-n Inv-loop μ-loop
+mul-n c = let q = number-times (c .before .loop .n) (c .before .before .before .args .d - c .before .loop .i) (rw (c .before .loop .inv .1) (number-few (c .before .before .before .args .d) (c .before .before .before .args .root .now) (c .before .loop .i) (c .before .before .before .pre .0) (omega arith))) (omega arith) in omega arith
+
+smaller-requires : tie.Need-smaller-requires Inv-loop μ-loop
+smaller-requires c κs = search needs
+
+add-n : tie.Need-add-n Inv-loop μ-loop
+add-n c = let q = number-times (c .before .before .loop .n) (c .before .before .before .before .args .d - c .before .before .loop .i) (rw (c .before .before .loop .inv .1) (number-few (c .before .before .before .before .args .d) (c .before .before .before .before .args .root .now) (c .before .before .loop .i) (c .before .before .before .before .pre .0) (omega arith))) (omega arith) in omega (arith, c .smaller .ensures, smaller-few (c .before .before .before .before .args .root .now) (c .before .before .loop .i) (c .before .before .before .before .args .d))
+
+add-i : tie.Need-add-i Inv-loop μ-loop
+add-i c = search needs
+
+loop-less : tie.Need-loop-less Inv-loop μ-loop
+loop-less c = search needs
+
+loop-again : tie.Need-loop-again Inv-loop μ-loop
+loop-again c = (omega arith, rw add-one (number-more (c .before .before .before .before .args .d) (c .before .before .before .before .args .root .now) (c .before .before .loop .i) _ _ (c .before .before .loop .inv .1) (c .smaller .ensures)))
+
+returns : tie.Need-returns Inv-loop μ-loop
+returns c = let e : c .before .loop .i ≡ c .before .before .before .args .d = omega (arith, c .loop-test .left, c .before .loop .inv .0) in c .before .loop .inv .1 ∙ ap (numberIn (c .before .before .before .args .d) (c .before .before .before .args .root .now)) e
+
+pub number-spec : {M : Type 1} → statement M
+number-spec =
+    tie.close
+    (tie.spec
+    Inv-loop
+    μ-loop
+    loop-holds
+    sub-n
+    mul-n
+    smaller-requires
+    add-n
+    add-i
+    loop-less
+    loop-again
+    returns)

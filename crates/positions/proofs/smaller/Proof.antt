@@ -1,0 +1,67 @@
+-- `smaller` meets its contract. The loop keeps: n counts the smaller entries before place j.
+use mathlib.Core.Path.{_≡_, refl, sym, ap, _∙_, subst}
+use Prim.Native.Nat.{ℕ, suc, _+_, _-_, _*_, _^_, _≤_, _<_}
+use mathlib.Core.Logic.{⊎-elim}
+use native.Mathlib.Omega.{arith}
+use native.Mathlib.Numerals.{add-one}
+use lib.ListN.{length, getD}
+use Rattle.positions.specs.RootNumbers.{smallerIn, smaller-none, smaller-more, smaller-same, smaller-few}
+use borrow.Author.Needs.{needs}
+use Rattle.positions.proofs.smaller.Statement.{statement}
+use Rattle.positions.proofs.smaller.Tie as tie
+
+abbrev Inv-loop : tie.InvT-loop
+Inv-loop root i d n₀ j₀ n j = (i < j) × (j ≤ d) × (n ≡ smallerIn root i j)
+
+abbrev μ-loop : tie.MeasureT-loop
+μ-loop root i d n₀ j₀ n j = d - j
+
+add-j : tie.Need-add-j Inv-loop μ-loop
+add-j c = search needs
+
+loop-holds : tie.Need-loop-holds Inv-loop μ-loop
+loop-holds c = (omega arith, omega arith, sym (smaller-none (c .args .root .now) (c .args .i) (c .args .i + 1) (omega arith)))
+
+shared-slice-read-if1 : tie.Need-shared-slice-read-if1 Inv-loop μ-loop
+shared-slice-read-if1 c = search needs
+
+shared-slice-read-if1-2 : tie.Need-shared-slice-read-if1-2 Inv-loop μ-loop
+shared-slice-read-if1-2 c = search needs
+
+add-n : tie.Need-add-n Inv-loop μ-loop
+add-n c = omega (arith, smaller-few (c .before .before .before .before .before .args .root .now) (c .before .before .before .before .before .args .i) (c .before .before .before .before .loop .j), c .before .before .before .before .loop .inv .2)
+
+add-j-2 : tie.Need-add-j-2 Inv-loop μ-loop
+add-j-2 c = search needs
+
+loop-less : tie.Need-loop-less Inv-loop μ-loop
+loop-less c = search needs
+
+loop-again : tie.Need-loop-again Inv-loop μ-loop
+loop-again c = (
+  omega arith,
+  omega arith,
+  rw add-one (⊎-elim
+      (λ w. w .1 ∙ ap (λ (k : ℕ). k + 1) (c .before .before .before .before .loop .inv .2) ∙ sym (smaller-more (c .before .before .before .before .before .args .root .now) (c .before .before .before .before .before .args .i) (c .before .before .before .before .loop .j) (c .before .before .before .before .loop .inv .0) (w .0 .taken)))
+      (λ w. w .1 ∙ c .before .before .before .before .loop .inv .2 ∙ sym (smaller-same (c .before .before .before .before .before .args .root .now) (c .before .before .before .before .before .args .i) (c .before .before .before .before .loop .j) (c .before .before .before .before .loop .inv .0) (w .0 .left)))
+      (c .if1 .came)),
+)
+
+returns : tie.Need-returns Inv-loop μ-loop
+returns c = let e : c .before .loop .j ≡ c .before .before .args .d = omega (arith, c .loop-test .left, c .before .loop .inv .1) in c .before .loop .inv .2 ∙ ap (smallerIn (c .before .before .args .root .now) (c .before .before .args .i)) e
+
+pub smaller-spec : {M : Type 1} → statement M
+smaller-spec =
+    tie.close
+    (tie.spec
+    Inv-loop
+    μ-loop
+    add-j
+    loop-holds
+    shared-slice-read-if1
+    shared-slice-read-if1-2
+    add-n
+    add-j-2
+    loop-less
+    loop-again
+    returns)

@@ -1,0 +1,156 @@
+// Cells on the line: where the cell of a code that passes stands. It belongs to the code layer: what stands above it
+// knows a cell by its position alone.
+ghost use mathlib.Core.Path.{_≡_};
+ghost use Prim.Native.Nat.{_+_, _-_, _*_, _^_, _≤_, _<_};
+ghost use lib.ListN.{length, take, drop};
+ghost use Rattle.dimension.specs.Sizes.{axesOf, greatestDepth};
+ghost use Rattle.bisection.specs.Refusals.{done, codeRefusal};
+ghost use Rattle.codes.specs.Walks.{ownByte};
+ghost use Rattle.positions.specs.Positions.{PositionIs};
+ghost use Rattle.positions.specs.RootNumbers.{smallerIn, numberIn};
+ghost use Rattle.positions.specs.Walks.{WalkReady, Walked, placeAbove, BoxesReady, boxesAbove};
+
+use codes::buffers;
+use codes::entries;
+use codes::steps;
+use dimension::Dim;
+
+// The number of a cell's root in dictionary order, and its part of the root's stretch.
+pub struct Position {
+    pub root: usize,
+    pub start: u64,
+    pub size: u64,
+}
+
+// Two to a power.
+fn power(n: usize) -> u64
+    requires { ⌜ n ≤ 60 ⌝ }
+    ensures { λ r. ⌜ r ≡ 2 ^ n ⌝ }
+{
+    1 << n
+}
+
+fn wide(x: u8) -> u64
+    ensures { λ r. ⌜ r ≡ x ⌝ }
+{
+    x as u64
+}
+
+// The length of the stretch that all cells of a root share.
+pub fn stretch(dim: Dim) -> u64
+    ensures { λ r. ⌜ r ≡ 2 ^ greatestDepth (axesOf dim) ⌝ }
+{
+    power(dim.greatest_depth())
+}
+
+// How many of the d entries after place i are smaller than entry i.
+fn smaller(root: &[u8], i: usize, d: usize) -> usize
+    requires { ⌜ (i < d) × (d ≤ length (now root)) ⌝ }
+    ensures { λ r. ⌜ r ≡ smallerIn (now (root .entry)) i d ⌝ }
+{
+    let mut n: usize = 0;
+    let mut j = i + 1;
+    while j < d {
+        if root[j] < root[i] {
+            n += 1;
+        }
+        j += 1;
+    }
+    n
+}
+
+// The number of a root in dictionary order: at each place, how many of the axes left are passed over.
+fn number(root: &[u8], d: usize) -> usize
+    requires { ⌜ (d ≤ 4) × (d ≤ length (now root)) ⌝ }
+    ensures { λ r. ⌜ r ≡ numberIn d (now (root .entry)) d ⌝ }
+{
+    let mut n: usize = 0;
+    let mut i: usize = 0;
+    while i < d {
+        n = n * (d - i) + smaller(root, i, d);
+        i += 1;
+    }
+    n
+}
+
+// The split place one depth up, from the one here.
+fn place_above(k: usize, axes: usize) -> usize
+    requires { ⌜ k ≤ 8 ⌝ }
+    ensures { λ r. ⌜ r ≡ placeAbove k axes ⌝ }
+{
+    if k == axes {
+        return 1;
+    }
+    k + 1
+}
+
+// How many boxes there are one depth up, from those here.
+fn boxes_above(boxes: usize, k: usize, axes: usize) -> usize
+    requires { ⌜ BoxesReady boxes k axes ⌝ }
+    ensures { λ r. ⌜ r ≡ boxesAbove boxes k axes ⌝ }
+{
+    if k == axes {
+        return boxes - 1;
+    }
+    boxes
+}
+
+// The byte of the own signs of the box, of the first so many, 0 where there is none.
+fn own_of(code: &[u8], axes: usize, boxes: usize) -> u8
+    requires { ⌜ 2 + axes + boxes ≤ length (now code) ⌝ }
+    ensures { λ r. ⌜ r ≡ ownByte (take boxes (drop (2 + axes) (now (code .entry)))) ⌝ }
+{
+    if boxes == 0 {
+        return 0;
+    }
+    code[1 + axes + boxes]
+}
+
+// Takes the steps of the entries in `root` back, the deepest first, down to the root; gives where the cell starts.
+fn walk(code: &[u8], dim: Dim, depth: usize, root: &mut [u8], size: u64) -> u64
+    requires { ⌜ WalkReady (axesOf dim) depth (now code) (now root) size ⌝ }
+    ensures { λ r. ⌜ Walked (axesOf dim) depth (now (code .entry)) 0 (now (root .entry)) (now (root .exit)) r (2 ^ greatestDepth (axesOf dim)) ⌝ }
+{
+    let axes = dim.axes();
+    let mut k = dim.split_place(depth);
+    let mut boxes = dim.box_depth(depth);
+    let mut start: u64 = 0;
+    let mut half = size;
+    let mut t: usize = depth;
+    while 0 < t {
+        t -= 1;
+        boxes = boxes_above(boxes, k, axes);
+        k = place_above(k, axes);
+        let own = own_of(code, axes, boxes);
+        start += wide(steps::unstep(root, 0, k - 1, own)) * half;
+        half = half * 2;
+    }
+    start
+}
+
+// The same, with a buffer for the root.
+fn position_in(code: &[u8], root: &mut [u8]) -> Position
+    requires { ⌜ (codeRefusal (now code) ≡ done) × (4 ≤ length (now root)) ⌝ }
+    ensures { λ r. ⌜ PositionIs (now (code .entry)) r ⌝ }
+{
+    let dim = Dim::checked(code[0]);
+    let axes = dim.axes();
+    let depth = entries::size(code[1]);
+    buffers::copy(code, 2, axes, root, 0);
+    let size = power(dim.greatest_depth() - depth);
+    let start = walk(code, dim, depth, root, size);
+    Position {
+        root: number(root, axes),
+        start,
+        size,
+    }
+}
+
+// Where the cell of a code that passes stands.
+pub fn position_of(code: &[u8]) -> Position
+    requires { ⌜ codeRefusal (now code) ≡ done ⌝ }
+    ensures { λ r. ⌜ PositionIs (now (code .entry)) r ⌝ }
+{
+    let mut root: [u8; 4] = [0; 4];
+    position_in(code, &mut root)
+}

@@ -1,0 +1,104 @@
+-- Document 01, "Sheets" and "Refusal numbers": records, good sheets, the next leaf, a record's own tests in their
+-- order, and what the sheet check answers. The mark and the sample width are parameters: 43 4C (hex) and 2 today.
+use mathlib.Core.Path.{_≡_}
+use mathlib.Core.Bool.{Bool, true, false, _&&_}
+use mathlib.Core.List.{List, [], _∷_, _++_}
+use mathlib.Core.Logic.{_≢_}
+use Prim.Native.Nat.{ℕ, zero, suc, _+_, _*_, _<_}
+use lib.Dec.{eqb, leb}
+use lib.ListN.{length, take, drop}
+use Rattle.dimension.specs.Sizes.{isDimension, greatestDepth, codeLength}
+use Rattle.bisection.specs.Roots.{roots}
+use Rattle.bisection.specs.Codes.{codeOf, dimensionOf, depthOf, entriesOf, orthantsOf}
+use Rattle.bisection.specs.Refusals.{done, need, _then_, headRefusal, bodyRefusal}
+use Rattle.sheets.specs.Forests.{Cell, Leaves}
+use Rattle.sheets.specs.declared.SheetAnswer.{SheetAnswer}
+
+-- sheet: mark missing or wrong, or record cut short
+abbrev pub refusedRecord : ℕ
+refusedRecord = 13
+
+-- sheet: record of another dimension, not the next leaf, or sheet ended early
+abbrev pub refusedLeaf : ℕ
+refusedLeaf = 14
+
+-- two mark bytes
+abbrev pub sheetMark : List ℕ
+sheetMark = 0x43 ∷ 0x4C ∷ []
+
+-- a grey sample is 16 bits
+abbrev pub sampleWidth : ℕ
+sampleWidth = 2
+
+-- the records of the leaves, one after the other: the mark, the code, then d + 1 samples, which may be any
+pub data Records (mark : List ℕ) (width d : ℕ) : List Cell → List ℕ → Type 0 where
+  none : Records mark width d [] []
+  more : {c : Cell} {cs : List Cell} {rest sheet : List ℕ} (samples : List ℕ) → length samples ≡ width * suc d → sheet ≡ mark ++ (codeOf (c .root) (c .path) ++ (samples ++ rest)) → Records mark width d cs rest → Records mark width d (c ∷ cs) sheet
+
+-- a good sheet of n records: it lists, in tree order, the leaves of a forest on all roots of a dimension
+pub record GoodSheet (mark : List ℕ) (width : ℕ) (sheet : List ℕ) (n : ℕ) : Type 0 where
+  pub dimension : ℕ
+  pub is-dimension : isDimension dimension ≡ true
+  pub cells : List Cell
+  pub leaves : Leaves (roots dimension) (greatestDepth dimension) cells
+  pub records : Records mark width dimension cells sheet
+  pub count : length cells ≡ n
+
+-- a record is the next leaf when some good sheet begins with the records up to and including it
+pub record Begins (mark : List ℕ) (width : ℕ) (front : List ℕ) : Type 0 where
+  pub rest : List ℕ
+  pub count : ℕ
+  pub good : GoodSheet mark width (front ++ rest) count
+
+unfoldable pub beginsWith : List ℕ → List ℕ → Bool
+beginsWith [] bs = true
+beginsWith (m ∷ mark) [] = false
+beginsWith (m ∷ mark) (b ∷ bs) = eqb b m && beginsWith mark bs
+
+-- what stands behind the mark, and the code at its front
+unfoldable pub behindMark : List ℕ → List ℕ → List ℕ
+behindMark mark bs = drop (length mark) bs
+
+unfoldable pub codeIn : List ℕ → List ℕ
+codeIn bs = take (codeLength (dimensionOf bs) (depthOf bs)) bs
+
+-- how many bytes the code at the front of the bytes and its samples have
+unfoldable pub bodyLength : ℕ → List ℕ → ℕ
+bodyLength width bs = codeLength (dimensionOf bs) (depthOf bs) + width * suc (dimensionOf bs)
+
+unfoldable pub recordLength : List ℕ → ℕ → List ℕ → ℕ
+recordLength mark width bs = length mark + bodyLength width (behindMark mark bs)
+
+-- the tests behind the mark: 1, 2, 13 (code cut), 4, 5, 6, 13 (samples cut)
+unfoldable pub unmarkedRefusal : ℕ → List ℕ → ℕ
+unmarkedRefusal width bs =
+    headRefusal (dimensionOf bs) (depthOf bs)
+    then need (leb (codeLength (dimensionOf bs) (depthOf bs)) (length bs)) refusedRecord
+    then bodyRefusal (dimensionOf (codeIn bs)) (depthOf (codeIn bs)) (entriesOf (codeIn bs)) (orthantsOf (codeIn bs))
+    then need (leb (bodyLength width bs) (length bs)) refusedRecord
+
+-- a record's own tests: 13 (mark, or fewer than two bytes after it), 1, 2, 13 (code cut), 4, 5, 6, 13 (samples cut)
+unfoldable pub recordRefusal : List ℕ → ℕ → List ℕ → ℕ
+recordRefusal mark width bs =
+    need (beginsWith mark bs && leb 2 (length (behindMark mark bs))) refusedRecord
+    then unmarkedRefusal width (behindMark mark bs)
+
+-- n records read, up to an offset: each passes its own tests and is the next leaf
+pub data Read (mark : List ℕ) (width : ℕ) (sheet : List ℕ) : ℕ → ℕ → Type 0 where
+  start : Read mark width sheet 0 0
+  next : {at n to : ℕ} → Read mark width sheet at n → recordRefusal mark width (drop at sheet) ≡ done → to ≡ at + recordLength mark width (drop at sheet) → Begins mark width (take to sheet) → Read mark width sheet to (suc n)
+
+abbrev pub told : ℕ → ℕ → ℕ → SheetAnswer
+told refusal offset records = record { refusal = refusal; offset = offset; records = records }
+
+-- what the sheet check answers: the number of records of a good sheet; otherwise the first refusal in reading order,
+-- a record's own or 14, and where the record begins, which for an early end is the sheet's length
+pub data Answers (mark : List ℕ) (width : ℕ) (sheet : List ℕ) (r : SheetAnswer) : Type 0 where
+  good : {n : ℕ} → GoodSheet mark width sheet n → r ≡ told done 0 n → Answers mark width sheet r
+  record-refused : {at n : ℕ} → Read mark width sheet at n → at < length sheet → recordRefusal mark width (drop at sheet) ≢ done → r ≡ told (recordRefusal mark width (drop at sheet)) at 0 → Answers mark width sheet r
+  not-next : {at n : ℕ} → Read mark width sheet at n → at < length sheet → recordRefusal mark width (drop at sheet) ≡ done → (Begins mark width (take (at + recordLength mark width (drop at sheet)) sheet) → ⊥) → r ≡ told refusedLeaf at 0 → Answers mark width sheet r
+  ended-early : {at n : ℕ} → Read mark width sheet at n → at ≡ length sheet → ((m : ℕ) → GoodSheet mark width sheet m → ⊥) → r ≡ told refusedLeaf at 0 → Answers mark width sheet r
+
+-- the contract of the sheet check
+abbrev pub SheetIs : List ℕ → SheetAnswer → Type 0
+SheetIs sheet r = Answers sheetMark sampleWidth sheet r

@@ -1,0 +1,53 @@
+-- What the functions of the sheet layer answer.
+use mathlib.Core.Path.{_≡_, refl, sym, ap, _∙_, subst}
+use mathlib.Core.Bool.{Bool, true, false, _&&_}
+use mathlib.Core.List.{List, [], _∷_, _++_}
+use mathlib.Core.Logic.{_≢_}
+use Prim.Native.Nat.{ℕ, zero, suc, _+_, _-_, _*_, _^_, _≤_, _<_}
+use lib.ListN.{length, take, drop}
+use Rattle.dimension.specs.Sizes.{isDimension, greatestDepth, codeLength}
+use Rattle.bisection.specs.Codes.{dimensionOf, depthOf}
+use Rattle.bisection.specs.Refusals.{done}
+use Rattle.positions.specs.declared.Position.{Position}
+use Rattle.positions.specs.Positions.{PositionIs}
+use Rattle.sheets.specs.declared.State.{State}
+use Rattle.sheets.specs.declared.Stepped.{Stepped}
+use Rattle.sheets.specs.declared.Body.{Body}
+use Rattle.sheets.specs.Sheets.{sheetMark, sampleWidth, refusedLeaf, behindMark, codeIn, bodyLength, recordLength, unmarkedRefusal, recordRefusal}
+
+-- behind the mark: the first refusal, or the lengths
+pub record BodyIs (bs : List ℕ) (r : Body) : Type 0 where
+  pub refusal-is : r .refusal ≡ unmarkedRefusal sampleWidth bs
+  pub code-is : unmarkedRefusal sampleWidth bs ≡ done → r .code ≡ codeLength (dimensionOf bs) (depthOf bs)
+  pub length-is : unmarkedRefusal sampleWidth bs ≡ done → r .length ≡ bodyLength sampleWidth bs
+
+-- the leaf is of the dimension read so far, and starts where the last one ended
+pub record Fits (s : State) (d : ℕ) (leaf : Position) : Type 0 where
+  pub dimension-fits : s .dimension ≢ 0 → s .dimension ≡ d
+  pub root-fits : leaf .root ≡ s .root
+  pub start-fits : leaf .start ≡ s .start
+
+pub record TakeReady (s : State) (d : ℕ) (leaf : Position) (n : ℕ) : Type 0 where
+  pub dimension : isDimension d ≡ true
+  pub root-room : leaf .root + 1 < 2 ^ 64
+  pub end-room : leaf .start + leaf .size < 2 ^ 64
+  pub offset-room : s .offset + n < 2 ^ 64
+  pub records-room : s .records + 1 < 2 ^ 64
+
+abbrev pub moved : ℕ → ℕ → ℕ → ℕ → ℕ → Stepped
+moved offset records dimension root start = record { refusal = done; state = record { offset = offset; records = records; dimension = dimension; root = root; start = start } }
+
+-- the next leaf begins where this one ends, on the same root or on the next one; or this one is not the next leaf
+pub data TakeIs (s : State) (d : ℕ) (leaf : Position) (n : ℕ) (r : Stepped) : Type 0 where
+  not-taken : (Fits s d leaf → ⊥) → r .refusal ≡ refusedLeaf → TakeIs s d leaf n r
+  on : Fits s d leaf → leaf .start + leaf .size ≢ 2 ^ greatestDepth d → r ≡ moved (s .offset + n) (s .records + 1) d (s .root) (leaf .start + leaf .size) → TakeIs s d leaf n r
+  over : Fits s d leaf → leaf .start + leaf .size ≡ 2 ^ greatestDepth d → r ≡ moved (s .offset + n) (s .records + 1) d (s .root + 1) 0 → TakeIs s d leaf n r
+
+pub record StepReady (s : State) (bs : List ℕ) : Type 0 where
+  pub room : s .offset + length bs < 2 ^ 64
+  pub few : s .records ≤ s .offset
+
+-- a record: its own refusal, or its leaf taken
+pub data StepIs (s : State) (bs : List ℕ) (r : Stepped) : Type 0 where
+  own : recordRefusal sheetMark sampleWidth bs ≢ done → r .refusal ≡ recordRefusal sheetMark sampleWidth bs → StepIs s bs r
+  read : (leaf : Position) → recordRefusal sheetMark sampleWidth bs ≡ done → PositionIs (codeIn (behindMark sheetMark bs)) leaf → TakeIs s (dimensionOf (behindMark sheetMark bs)) leaf (recordLength sheetMark sampleWidth bs) r → StepIs s bs r

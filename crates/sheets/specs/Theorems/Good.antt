@@ -1,0 +1,44 @@
+-- What holds of a good sheet: its leaves are in tree order with no gap and no overlap, and its bytes determine its
+-- dimension, its leaves, its forest and the number of its records.
+use mathlib.Core.Path.{_≡_, refl, sym, ap, _∙_, subst}
+use mathlib.Core.List.{List, [], _∷_}
+use Prim.Native.Nat.{ℕ, zero, suc, _≤_, _<_}
+use native.Mathlib.Omega.{arith}
+use lib.ListN.{length}
+use Rattle.dimension.specs.Sizes.{greatestDepth}
+use Rattle.bisection.specs.Roots.{roots}
+use Rattle.positions.specs.RootNumbers.{roots-some}
+use Rattle.sheets.specs.Forests.{Cell, rootCells, Leaves, InOrder}
+use Rattle.sheets.specs.Sheets.{GoodSheet}
+use Rattle.sheets.specs.Theorems.Frontier.{State, state, Follows, end, good-follows, follows-one}
+use Rattle.sheets.specs.Theorems.Listing.{CellsIn, same-dimension, leaves-cells}
+use Rattle.sheets.specs.Theorems.Determined.{good-cells}
+use Rattle.sheets.specs.Theorems.Tiles.{Tiles, leaves-tile, treesOf, forest-one}
+use Rattle.sheets.specs.Theorems.Order.{leaves-in-order}
+
+module _ {mark : List ℕ} {width : ℕ} {sheet : List ℕ} {n : ℕ} (g : GoodSheet mark width sheet n) where
+  pub good-in-order : InOrder (roots (g .dimension)) (g .cells)
+  good-in-order = leaves-in-order (roots (g .dimension)) (g .leaves)
+
+  pub good-tiles : Tiles (greatestDepth (g .dimension)) (roots (g .dimension)) 0 (g .cells)
+  good-tiles = leaves-tile (roots (g .dimension)) (g .leaves)
+
+  pub good-some : 0 < length (g .cells)
+  good-some = go (g .cells) (g .leaves)
+    where
+      go : (cs : List Cell) → Leaves (roots (g .dimension)) (greatestDepth (g .dimension)) cs → 0 < length cs
+      go [] v = let f = good-follows v in let e : roots (g .dimension) ≡ [] = ap (λ (s : State). s .roots) (follows-one end (f .1)) ∙ f .2 in absurd (omega (arith, roots-some (g .dimension) (g .is-dimension), ap length e))
+      go (c ∷ cs) v = omega arith
+
+  module _ {n′ : ℕ} (g′ : GoodSheet mark width sheet n′) where
+    pub same-cells : g .cells ≡ g′ .cells
+    same-cells = good-cells mark width sheet g g′
+
+    pub same-count : n ≡ n′
+    same-count = sym (g .count) ∙ ap length same-cells ∙ g′ .count
+
+    pub same-axes : g .dimension ≡ g′ .dimension
+    same-axes = same-dimension good-some (leaves-cells (g .dimension) (g .is-dimension) (g .leaves)) (subst (CellsIn (g′ .dimension)) (sym same-cells) (leaves-cells (g′ .dimension) (g′ .is-dimension) (g′ .leaves)))
+
+    pub same-forest : treesOf (g .leaves .forest) ≡ treesOf (g′ .leaves .forest)
+    same-forest = forest-one (ap (λ (d : ℕ). rootCells (roots d)) same-axes) same-cells (g .leaves .forest) (g′ .leaves .forest)
