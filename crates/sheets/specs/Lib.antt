@@ -8,4 +8,5 @@ pub mod Theorems
 -- What the functions answer, and what their proofs use.
 pub mod Steps
 pub mod StepLaws
+pub mod Lengths
 pub mod Progress

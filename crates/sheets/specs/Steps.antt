@@ -13,6 +13,7 @@ use Rattle.positions.specs.Positions.{PositionIs}
 use Rattle.sheets.specs.declared.State.{State}
 use Rattle.sheets.specs.declared.Stepped.{Stepped}
 use Rattle.sheets.specs.declared.Body.{Body}
+use Rattle.sheets.specs.declared.Lengths.{Lengths}
 use Rattle.sheets.specs.Sheets.{sheetMark, sampleWidth, refusedLeaf, behindMark, codeIn, bodyLength, recordLength, unmarkedRefusal, recordRefusal}
 
 -- behind the mark: the first refusal, or the lengths
@@ -20,6 +21,11 @@ pub record BodyIs (bs : List ℕ) (r : Body) : Type 0 where
   pub refusal-is : r .refusal ≡ unmarkedRefusal sampleWidth bs
   pub code-is : unmarkedRefusal sampleWidth bs ≡ done → r .code ≡ codeLength (dimensionOf bs) (depthOf bs)
   pub length-is : unmarkedRefusal sampleWidth bs ≡ done → r .length ≡ bodyLength sampleWidth bs
+
+-- the lengths of a record: of the code behind its mark, and of the whole
+pub record LengthsAre (bs : List ℕ) (r : Lengths) : Type 0 where
+  pub code-is : r .code ≡ codeLength (dimensionOf (behindMark sheetMark bs)) (depthOf (behindMark sheetMark bs))
+  pub whole-is : r .whole ≡ recordLength sheetMark sampleWidth bs
 
 -- the leaf is of the dimension read so far, and starts where the last one ended
 pub record Fits (s : State) (d : ℕ) (leaf : Position) : Type 0 where

@@ -5,8 +5,9 @@ ghost use mathlib.Core.Bool.{Bool, true, false, _&&_};
 ghost use Prim.Native.Nat.{_+_, _-_, _*_, _^_, _≤_, _<_};
 ghost use lib.Dec.{leb};
 ghost use lib.ListN.{length, take, drop};
-ghost use Rattle.sheets.specs.Sheets.{sheetMark, beginsWith, behindMark, SheetIs};
-ghost use Rattle.sheets.specs.Steps.{BodyIs, TakeReady, TakeIs, StepReady, StepIs};
+ghost use Rattle.bisection.specs.Refusals.{done};
+ghost use Rattle.sheets.specs.Sheets.{sheetMark, sampleWidth, beginsWith, behindMark, recordRefusal, SheetIs};
+ghost use Rattle.sheets.specs.Steps.{BodyIs, LengthsAre, TakeReady, TakeIs, StepReady, StepIs};
 
 use bisection::DONE;
 use codes::entries;
@@ -22,7 +23,7 @@ const MARK_FIRST: u8 = 0x43;
 
 const MARK_SECOND: u8 = 0x4C;
 
-const MARK_LENGTH: usize = 2;
+pub const MARK_LENGTH: usize = 2;
 
 const SAMPLE_WIDTH: usize = 2;
 
@@ -54,6 +55,12 @@ pub struct Body {
     pub refusal: u8,
     pub code: usize,
     pub length: usize,
+}
+
+// How many bytes a record's code has, and the whole record.
+pub struct Lengths {
+    pub code: usize,
+    pub whole: usize,
 }
 
 // The bytes begin with the mark, and two more bytes follow it.
@@ -110,6 +117,19 @@ fn read_body(bytes: &[u8]) -> Body
         refusal: DONE,
         code,
         length,
+    }
+}
+
+// The lengths of a record that passes its own tests.
+pub fn record_lengths(bytes: &[u8]) -> Lengths
+    requires { ⌜ recordRefusal sheetMark sampleWidth (now bytes) ≡ done ⌝ }
+    ensures { λ r. ⌜ LengthsAre (now (bytes .entry)) r ⌝ }
+{
+    let dimension = bytes[MARK_LENGTH];
+    let code = codes::code_head(dimension, bytes[MARK_LENGTH + 1]).length;
+    Lengths {
+        code,
+        whole: MARK_LENGTH + code + SAMPLE_WIDTH * (entries::size(dimension) + 1),
     }
 }
 

@@ -1,0 +1,27 @@
+-- `put` meets its contract.
+use mathlib.Core.Path.{_≡_, refl, sym, ap, _∙_, subst}
+use Prim.Native.Nat.{ℕ, suc, _+_, _-_, _*_, _/_, _%_, _^_, _≤_, _<_}
+use native.Mathlib.Omega.{arith}
+use lib.ListN.{length, getD, take, drop, length-append, length-set}
+use Rattle.listing.specs.Putting.{put-copy}
+use borrow.Author.Needs.{needs}
+use Rattle.listing.proofs.text.put.Statement.{statement}
+use Rattle.listing.proofs.text.put.Tie as tie
+use Rattle.listing.proofs.text.put.Reads as reads
+use Rattle.listing.proofs.text.put.Lts as lts
+use Rattle.codes.proofs.buffers.copy.Reads as copy-reads
+
+copy-requires : tie.Need-copy-requires
+copy-requires c κs = search needs
+
+add-result : tie.Need-add-result
+add-result c = search needs
+
+same-length : tie.Need-same-length
+same-length c = search needs
+
+returns : tie.Need-returns
+returns c = record { next = refl; is = c .before .before .copy .ensures ∙ put-copy (c .before .before .before .before .before .before .args .at) _ (c .before .before .before .before .before .before .args .bytes .now) (c .before .before .before .before .before .before .args .out .now) refl }
+
+pub put-spec : {M : Type 1} → statement M
+put-spec = tie.close (tie.spec copy-requires add-result same-length returns)

@@ -1,0 +1,44 @@
+-- `put_decimal` meets its contract: the digits that `io::decimal` makes are the number's.
+use mathlib.Core.Path.{_≡_, refl, sym, ap, _∙_, subst}
+use Prim.Native.Nat.{ℕ, suc, _+_, _-_, _*_, _/_, _%_, _^_, _≤_, _<_}
+use native.Mathlib.Omega.{arith}
+use mathlib.Core.List.{List}
+use lib.ListN.{length, getD, take, drop, length-append, length-set}
+use Rattle.listing.specs.Digits.{decimal-is}
+use Rattle.listing.specs.Putting.{Puts}
+use borrow.Author.Needs.{needs}
+use Rattle.listing.proofs.text.put_decimal.Statement.{statement}
+use Rattle.listing.proofs.text.put_decimal.Tie as tie
+use Rattle.listing.proofs.text.put_decimal.Reads as reads
+use Rattle.listing.proofs.text.put_decimal.Lts as lts
+use Rattle.io.proofs.decimal.Reads as decimal-reads
+use Rattle.listing.proofs.text.put.Reads as put-reads
+
+decimal-requires : tie.Need-decimal-requires
+decimal-requires c κs = search needs
+
+array-share-prefix-digits : tie.Need-array-share-prefix-digits
+array-share-prefix-digits c = search needs
+
+slice-aggregate-put : tie.Need-slice-aggregate-put
+slice-aggregate-put c = search needs
+
+put-requires : tie.Need-put-requires
+put-requires c κs = rw (c .before .before .decimal .ensures .1 .1 ∙ decimal-is (c .before .before .before .before .before .args .n) (c .before .before .decimal .result) (c .before .before .decimal .ensures .1 .0)) (c .before .before .before .before .before .pre)
+
+same-length : tie.Need-same-length
+same-length c = search needs
+
+returns : tie.Need-returns
+returns c = subst (λ (t : List ℕ). Puts (c .before .before .before .before .before .before .before .before .args .at) t (c .before .before .before .before .before .before .before .before .args .out .now) (c .before .before .put .result) (c .before .before .put .last .0)) (c .before .before .before .before .before .decimal .ensures .1 .1 ∙ decimal-is (c .before .before .before .before .before .before .before .before .args .n) (c .before .before .before .before .before .decimal .result) (c .before .before .before .before .before .decimal .ensures .1 .0)) (c .before .before .put .ensures)
+
+pub put-decimal-spec : {M : Type 1} → statement M
+put-decimal-spec =
+    tie.close
+    (tie.spec
+    decimal-requires
+    array-share-prefix-digits
+    slice-aggregate-put
+    put-requires
+    same-length
+    returns)

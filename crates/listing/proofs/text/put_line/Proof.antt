@@ -1,0 +1,43 @@
+-- `put_line` meets its contract: three texts, one behind the other.
+use mathlib.Core.Path.{_≡_, refl, sym, ap, _∙_, subst}
+use Prim.Native.Nat.{ℕ, suc, _+_, _-_, _*_, _/_, _%_, _^_, _≤_, _<_}
+use native.Mathlib.Omega.{arith}
+use lib.ListN.{length, getD, take, drop, length-append, length-set}
+use Rattle.listing.specs.Texts.{decimal, newline, numberLine}
+use Rattle.listing.specs.Lines.{number-fits}
+use borrow.Author.Needs.{needs}
+use Rattle.listing.proofs.text.put_line.Statement.{statement}
+use Rattle.listing.proofs.text.put_line.Tie as tie
+use Rattle.listing.proofs.text.put_line.Reads as reads
+use Rattle.listing.proofs.text.put_line.Lts as lts
+use Rattle.listing.proofs.text.put.Reads as put-reads
+use Rattle.listing.proofs.text.put_decimal.Reads as put-decimal-reads
+
+put-requires : tie.Need-put-requires
+put-requires c κs = number-fits (c .before .before .before .args .at) (c .before .before .before .args .word .now) (c .before .before .before .args .n) (c .before .before .before .args .out .now) (c .before .before .before .pre) .first
+
+put-decimal-requires : tie.Need-put-decimal-requires
+put-decimal-requires c κs = number-fits (c .before .before .before .before .before .before .before .args .at) (c .before .before .before .before .before .before .before .args .word .now) (c .before .before .before .before .before .before .before .args .n) (c .before .before .before .before .before .before .before .args .out .now) (c .before .before .before .before .before .before .before .pre) .second (c .before .before .before .put .ensures)
+
+slice-aggregate-put : tie.Need-slice-aggregate-put
+slice-aggregate-put c = search needs
+
+put-requires-2 : tie.Need-put-requires-2
+put-requires-2 c κs = number-fits (c .before .before .before .before .before .before .before .before .before .before .before .before .args .at) (c .before .before .before .before .before .before .before .before .before .before .before .before .args .word .now) (c .before .before .before .before .before .before .before .before .before .before .before .before .args .n) (c .before .before .before .before .before .before .before .before .before .before .before .before .args .out .now) (c .before .before .before .before .before .before .before .before .before .before .before .before .pre) .third (c .before .before .before .before .before .before .before .before .put .ensures) (c .before .before .before .before .put-decimal .ensures)
+
+same-length : tie.Need-same-length
+same-length c = search needs
+
+returns : tie.Need-returns
+returns c = number-fits (c .before .before .before .before .before .before .before .before .before .before .before .before .before .before .before .args .at) (c .before .before .before .before .before .before .before .before .before .before .before .before .before .before .before .args .word .now) (c .before .before .before .before .before .before .before .before .before .before .before .before .before .before .before .args .n) (c .before .before .before .before .before .before .before .before .before .before .before .before .before .before .before .args .out .now) (c .before .before .before .before .before .before .before .before .before .before .before .before .before .before .before .pre) .whole (c .before .before .before .before .before .before .before .before .before .before .before .put .ensures) (c .before .before .before .before .before .before .before .put-decimal .ensures) (c .before .before .put2 .ensures)
+
+pub put-line-spec : {M : Type 1} → statement M
+put-line-spec =
+    tie.close
+    (tie.spec
+    put-requires
+    put-decimal-requires
+    slice-aggregate-put
+    put-requires-2
+    same-length
+    returns)

@@ -1,0 +1,11 @@
+-- The listing of a sheet.
+-- What the program writes, byte by byte, and the listing's contract.
+pub mod Texts
+-- Two outcomes that the contract allows are equal.
+pub mod Determined
+-- What the proofs of the functions use.
+pub mod Putting
+pub mod Digits
+pub mod Lines
+pub mod Leaves
+pub mod Whole
