@@ -186,6 +186,18 @@ split-after d D k d0 e = go (deeper d D d0)
 pub div-le : (n d : ℕ) → 2 ≤ d → n / d ≤ n / 2
 div-le n d h = le-div-iff-mul-le {k = 2} {x = n / d} {y = n} (omega arith) .1 (omega (arith, mul-le-mul-left (n / d) h, div-mul-le-self n d))
 
+-- d! is positive and grows with d
+pub count-some : (d : ℕ) → 0 < rootCount d
+unfolding rootCount
+count-some zero = omega arith
+count-some (suc d) = omega (arith, count-some d)
+
+pub counts-rise : (d e : ℕ) → d ≤ e → rootCount d ≤ rootCount e
+unfolding rootCount
+counts-rise zero e h = count-some e
+counts-rise (suc d) zero h = absurd (omega arith)
+counts-rise (suc d) (suc e) h = mul-le-mul h (counts-rise d e (omega arith))
+
 -- the counts that the code has for d!
 abbrev pub rootsOf : Dim → ℕ
 rootsOf Two = 2

@@ -70,8 +70,8 @@ module _ (code room : List ℕ) (e : codeRefusal code ≡ done) (d D : ℕ) (ax 
       root = found .root;
       path = found .path;
       code-of = found .code-of;
-      number = subst (λ (m : ℕ). m < length (roots (length (found .root)))) (sym is′) (numbered (found .root) (found .code-of .good-root) .small);
-      root-is = ap (λ (m : ℕ). getD (roots (length (found .root))) m []) is′ ∙ numbered (found .root) (found .code-of .good-root) .is;
+      number = subst (λ (m : ℕ). m < length (roots (length (found .root)))) (sym is′) (numbered (found .root) (found .code-of .good-root .permutation) .small);
+      root-is = ap (λ (m : ℕ). getD (roots (length (found .root))) m []) is′ ∙ numbered (found .root) (found .code-of .good-root .permutation) .is;
       start-is = w .start-is ∙ ap (startOf (greatestDepth d - 0)) path-is ∙ ap (λ (m : ℕ). startOf m (found .path)) (none ∙ ap greatestDepth (sym root-size));
       size-is = s ∙ ap (λ (m : ℕ). 2 ^ (greatestDepth m - D)) (sym root-size) ∙ ap (λ (m : ℕ). 2 ^ (greatestDepth (length (found .root)) - m)) (sym path-size);
     }

@@ -1,26 +1,22 @@
--- The roots of a dimension: every good root stands among them, at the number that its entries give; every one of
--- them is a good root; and there are d! of them. Each is one computed test over the three dimensions.
+-- The roots of dimension d, for every d: a permutation of the axes stands among them at the number that its entries
+-- give, each of them is a permutation, none stands twice, and there are d! of them.
 use mathlib.Core.Path.{_≡_, refl, sym, ap, _∙_, subst}
-use mathlib.Core.Bool.{Bool, true, false, cond, not, _&&_, _||_}
-use mathlib.Core.List.{List, [], _∷_, _++_, map}
+use mathlib.Core.Bool.{Bool, true, false, cond, _&&_}
+use mathlib.Core.List.{List, [], _∷_, _++_}
 use Prim.Native.Nat.{ℕ, zero, suc, _+_, _-_, _*_, _^_, _≤_, _<_}
 use native.Mathlib.Omega.{arith}
 use native.Mathlib.Decide.{ℕ-discrete}
-use native.Mathlib.Nat.{mul-le-mul-left}
+use native.Mathlib.Nat.{le-refl, mul-le-mul-left}
 use lib.Pow.{pow-lt}
-use lib.Dec.{T, eqb, leb, ltb}
-use lib.ListN.{length, getD, List·getD-append}
-use borrow.Author.Tests.{eqb-true, ltb-true, lt-ltb, le-ltb}
+use lib.Dec.{ltb}
+use lib.ListN.{length, getD, drop, length-drop, drop-of-length-le, List·getD-append}
+use lib.Seq.{drop-cons}
+use borrow.Author.Tests.{lt-ltb, le-ltb}
 use Rattle.dimension.specs.Sizes.{isDimension, rootCount}
-use Rattle.dimension.specs.Laws.{Dimension, dimension}
-use Rattle.bisection.specs.Roots.{Permutation, GoodRoot, axesFrom, picks, joined, arrangements, roots}
-use Rattle.bisection.specs.Codes.{minus, axis}
-use Rattle.bisection.specs.Refusals.{each, fresh, permutes}
-use Rattle.bisection.specs.Theorems.Checked.{both, each-at, signed-permutes}
-use Rattle.bisection.specs.Theorems.CodePaths.{some-axes, few-axes}
-use Rattle.bisection.specs.Theorems.Paths.{root-passes}
-use Rattle.codes.specs.Outcomes.{isRoot}
-use Rattle.codes.specs.PathAnswers.{good-root}
+use Rattle.dimension.specs.Laws.{dimension, count-some, counts-rise}
+use Rattle.bisection.specs.Roots.{Permutation, GoodRoot, axesFrom, arrangements, roots}
+use Rattle.positions.specs.Arrangements.{Picked, here, there, Arranged, arranged-length, rank, rank-under, arrangements-count, stands, Ranked, ranked}
+use Rattle.positions.specs.Rising.{Rising, ends, goes-on, picked-over, under, numberOf, rank-is, In, arranged-in, arranged-apart, arranged-by}
 
 -- how many of the entries between place i and place j are smaller than entry i
 unfoldable pub smallerIn : List ℕ → ℕ → ℕ → ℕ
@@ -31,118 +27,6 @@ smallerIn root i (suc j) = smallerIn root i j + cond (ltb i j && ltb (getD root 
 unfoldable pub numberIn : ℕ → List ℕ → ℕ → ℕ
 numberIn d root zero = 0
 numberIn d root (suc i) = numberIn d root i * (d - i) + smallerIn root i d
-
-unfoldable pub same : List ℕ → List ℕ → Bool
-same [] [] = true
-same [] (y ∷ ys) = false
-same (x ∷ xs) [] = false
-same (x ∷ xs) (y ∷ ys) = eqb x y && same xs ys
-
-not-true : {A : Type 0} → false ≡ true → A
-not-true e = absurd (subst T (sym e) tt)
-
-same-is : (xs ys : List ℕ) → same xs ys ≡ true → xs ≡ ys
-unfolding same
-same-is [] [] e = refl
-same-is [] (y ∷ ys) e = not-true e
-same-is (x ∷ xs) [] e = not-true e
-same-is (x ∷ xs) (y ∷ ys) e =
-    let b = both (eqb x y) (same xs ys) e in
-    let h : x ≡ y = eqb-true x y (b .0) in
-    let t : xs ≡ ys = same-is xs ys (b .1) in cc
-
--- a test of all lists of n axes 1..d
-unfoldable pub allWords : ℕ → ℕ → (List ℕ → Bool) → Bool
-allWords zero d test = test []
-allWords (suc n) d test = each d (λ a. allWords n d (λ w. test (suc a ∷ w)))
-
-words-all : (d : ℕ) (w : List ℕ) (test : List ℕ → Bool) → allWords (length w) d test ≡ true → ((i : ℕ) → i < length w → 1 ≤ getD w i 0) → ((i : ℕ) → i < length w → getD w i 0 ≤ d) → test w ≡ true
-unfolding allWords
-words-all d [] test e lo hi = e
-words-all d (zero ∷ w) test e lo hi = absurd (omega (arith, lo 0 (omega arith)))
-words-all d (suc a ∷ w) test e lo hi =
-    words-all d w (λ v. test (suc a ∷ v)) (each-at d (λ b. allWords (length w) d (λ v. test (suc b ∷ v))) e a (omega (arith, hi 0 (omega arith)))) (λ i l. lo (suc i) (omega arith)) (λ i l. hi (suc i) (omega arith))
-
--- where a list is a permutation, it stands at its number
-unfoldable pub stands : ℕ → List ℕ → Bool
-stands d w = not (permutes d w) || (ltb (numberIn d w d) (length (roots d)) && same (getD (roots d) (numberIn d w d) []) w)
-
-all-stand : (d : ℕ) → Dimension d → allWords d d (stands d) ≡ true
-unfolding stands allWords numberIn smallerIn same permutes fresh each axis minus roots arrangements joined picks axesFrom
-all-stand d n = go d (n .two) (n .few)
-  where
-    go : (d : ℕ) → 2 ≤ d → d ≤ 4 → allWords d d (stands d) ≡ true
-    go zero a b = absurd (omega arith)
-    go (suc zero) a b = absurd (omega arith)
-    go (suc (suc zero)) a b = refl
-    go (suc (suc (suc zero))) a b = refl
-    go (suc (suc (suc (suc zero)))) a b = refl
-    go (suc (suc (suc (suc (suc d))))) a b = absurd (omega arith)
-
-or-true : (s t : Bool) → s ≡ true → (not s || t) ≡ true → t ≡ true
-or-true true t e f = f
-or-true false t e f = not-true e
-
-pub record Numbered (root : List ℕ) : Type 0 where
-  pub small : numberIn (length root) root (length root) < length (roots (length root))
-  pub is : getD (roots (length root)) (numberIn (length root) root (length root)) [] ≡ root
-
-pub numbered : (root : List ℕ) → GoodRoot root → Numbered root
-unfolding stands
-numbered root g = record { small = ltb-true _ _ (b .0); is = same-is _ _ (b .1) }
-  where
-    d : ℕ
-    d = length root
-
-    p : permutes (length root) root ≡ true
-    p = signed-permutes (length root) root (root-passes root (some-axes (g .dimension)) (few-axes (g .dimension)) (g .permutation) .signed)
-
-    t : stands (length root) root ≡ true
-    t = words-all (length root) root (stands (length root)) (all-stand (length root) (dimension (length root) (g .dimension))) (g .permutation .low) (g .permutation .high)
-
-    b : (ltb (numberIn (length root) root (length root)) (length (roots (length root))) ≡ true) × (same (getD (roots (length root)) (numberIn (length root) root (length root)) []) root ≡ true)
-    b = both _ _ (or-true (permutes (length root) root) _ p t)
-
--- every root of the list is a good root, and there are d! of them
-unfoldable pub goodAt : ℕ → ℕ → Bool
-goodAt d i = (eqb (length (getD (roots d) i [])) d && isRoot (getD (roots d) i [])) && eqb (numberIn d (getD (roots d) i []) d) i
-
-unfoldable pub goodRoots : ℕ → Bool
-goodRoots d = eqb (length (roots d)) (rootCount d) && each (length (roots d)) (goodAt d)
-
-all-good : (d : ℕ) → Dimension d → goodRoots d ≡ true
-unfolding goodRoots goodAt numberIn smallerIn isRoot permutes fresh each axis minus roots arrangements joined picks axesFrom rootCount
-all-good d n = go d (n .two) (n .few)
-  where
-    go : (d : ℕ) → 2 ≤ d → d ≤ 4 → goodRoots d ≡ true
-    go zero a b = absurd (omega arith)
-    go (suc zero) a b = absurd (omega arith)
-    go (suc (suc zero)) a b = refl
-    go (suc (suc (suc zero))) a b = refl
-    go (suc (suc (suc (suc zero)))) a b = refl
-    go (suc (suc (suc (suc (suc d))))) a b = absurd (omega arith)
-
-module _ (d : ℕ) (e : isDimension d ≡ true) where
-  split : (eqb (length (roots d)) (rootCount d) ≡ true) × (each (length (roots d)) (goodAt d) ≡ true)
-  unfolding goodRoots
-  split = both _ _ (all-good d (dimension d e))
-
-  pub roots-count : length (roots d) ≡ rootCount d
-  roots-count = eqb-true _ _ (split .0)
-
-  at : (i : ℕ) → i < length (roots d) → ((eqb (length (getD (roots d) i [])) d && isRoot (getD (roots d) i [])) ≡ true) × (eqb (numberIn d (getD (roots d) i []) d) i ≡ true)
-  unfolding goodAt
-  at i h = both (eqb (length (getD (roots d) i [])) d && isRoot (getD (roots d) i [])) (eqb (numberIn d (getD (roots d) i []) d) i) (each-at (length (roots d)) (goodAt d) (split .1) i h)
-
-  pub roots-length : (i : ℕ) → i < length (roots d) → length (getD (roots d) i []) ≡ d
-  roots-length i h = eqb-true _ _ (both (eqb (length (getD (roots d) i [])) d) (isRoot (getD (roots d) i [])) (at i h .0) .0)
-
-  pub roots-good : (i : ℕ) → i < length (roots d) → GoodRoot (getD (roots d) i [])
-  roots-good i h = good-root (getD (roots d) i []) (rw (roots-length i h) e) (both (eqb (length (getD (roots d) i [])) d) (isRoot (getD (roots d) i [])) (at i h .0) .1)
-
-  -- no root stands twice
-  pub roots-apart : (i j : ℕ) → i < length (roots d) → j < length (roots d) → getD (roots d) i [] ≡ getD (roots d) j [] → i ≡ j
-  roots-apart i j h l q = sym (eqb-true _ _ (at i h .1)) ∙ ap (λ (r : List ℕ). numberIn d r d) q ∙ eqb-true _ _ (at j l .1)
 
 -- the loops that count
 pub smaller-none : (root : List ℕ) (i j : ℕ) → j ≤ suc i → smallerIn root i j ≡ 0
@@ -200,25 +84,119 @@ unfolding numberIn
 number-front root rest d zero e h = refl
 number-front root rest d (suc i) e h = rw (number-front root rest d i e (omega arith), smaller-front root rest i d (omega arith) (omega arith)) refl
 
--- there are at most 24 roots
-pub roots-few : (d : ℕ) → isDimension d ≡ true → length (roots d) ≤ 24
-roots-few d e = omega (arith, roots-count d e, count d (dimension d e .two) (dimension d e .few))
-  where
-    count : (d : ℕ) → 2 ≤ d → d ≤ 4 → rootCount d ≤ 24
-    count zero a b = absurd (omega arith)
-    count (suc zero) a b = absurd (omega arith)
-    count (suc (suc zero)) a b = unfold rootCount in omega arith
-    count (suc (suc (suc zero))) a b = unfold rootCount in omega arith
-    count (suc (suc (suc (suc zero)))) a b = unfold rootCount in omega arith
-    count (suc (suc (suc (suc (suc d))))) a b = absurd (omega arith)
+-- what is counted from place j on is what stands there; so the number of all places is that of the entries
+smaller-rest : (root : List ℕ) (i n j : ℕ) → j + n ≡ length root → i < j → smallerIn root i (length root) ≡ smallerIn root i j + under (getD root i 0) (drop j root)
+unfolding smallerIn under
+smaller-rest root i zero j e h = let last : length root ≡ j = omega arith in rw (drop-of-length-le root {i = j} (omega arith), last) (omega arith)
+smaller-rest root i (suc n) j e h = smaller-rest root i n (suc j) (omega arith) (omega arith) ∙ rw (drop-cons root j 0 (omega arith), lt-ltb i j h) (omega arith)
 
-pub roots-some : (d : ℕ) → isDimension d ≡ true → 0 < length (roots d)
-roots-some d e = omega (arith, roots-count d e, count d (dimension d e .two) (dimension d e .few))
+number-rest : (root : List ℕ) (n i : ℕ) → i + n ≡ length root → numberIn (length root) root (length root) ≡ numberIn (length root) root i * rootCount n + numberOf (drop i root)
+unfolding numberIn numberOf rootCount
+number-rest root zero i e = let last : length root ≡ i = omega arith in rw (drop-of-length-le root {i = i} (omega arith), last) (omega arith)
+number-rest root (suc n) i e = number-rest root n (suc i) (omega arith) ∙ rw (drop-cons root i 0 (omega arith), behind, left, size) (omega arith)
   where
-    count : (d : ℕ) → 2 ≤ d → d ≤ 4 → 0 < rootCount d
-    count zero a b = absurd (omega arith)
-    count (suc zero) a b = absurd (omega arith)
-    count (suc (suc zero)) a b = unfold rootCount in omega arith
-    count (suc (suc (suc zero))) a b = unfold rootCount in omega arith
-    count (suc (suc (suc (suc zero)))) a b = unfold rootCount in omega arith
-    count (suc (suc (suc (suc (suc d))))) a b = absurd (omega arith)
+    left : length root - i ≡ suc n
+    left = omega arith
+
+    behind : smallerIn root i (length root) ≡ under (getD root i 0) (drop (suc i) root)
+    behind = smaller-rest root i n (suc i) (omega arith) (omega arith) ∙ omega (arith, smaller-none root i (suc i) (omega arith))
+
+    size : length (drop (suc i) root) ≡ n
+    size = rw (length-drop (suc i) root) (omega arith)
+
+pub number-is : (root : List ℕ) → numberIn (length root) root (length root) ≡ numberOf root
+unfolding numberIn
+number-is root = number-rest root (length root) 0 (omega arith) ∙ omega arith
+
+-- the axes from a on: they rise, there are n of them, and they are the numbers from a to below a + n
+axes-rise : (a n : ℕ) → Rising a (axesFrom a n)
+unfolding axesFrom
+axes-rise a zero = ends
+axes-rise a (suc n) = goes-on (le-refl a) (axes-rise (suc a) n)
+
+axes-length : (a n : ℕ) → length (axesFrom a n) ≡ n
+unfolding axesFrom
+axes-length a zero = refl
+axes-length a (suc n) = ap suc (axes-length (suc a) n)
+
+axes-in : (a n v : ℕ) → a ≤ v → v < a + n → In v (axesFrom a n)
+unfolding axesFrom
+axes-in a zero v l h = absurd (omega arith)
+axes-in a (suc n) v l h = go (ℕ-discrete v a) (axes-in (suc a) n v)
+  where
+    go : Dec (v ≡ a) → (suc a ≤ v → v < suc a + n → In v (axesFrom (suc a) n)) → In v (a ∷ axesFrom (suc a) n)
+    go (yes e) on = subst (λ (w : ℕ). In w (a ∷ axesFrom (suc a) n)) (sym e) (record { rest = axesFrom (suc a) n; picked = here })
+    go (no e) on = let m = on (omega arith) (omega arith) in record { rest = a ∷ m .rest; picked = there (m .picked) }
+
+axes-under : (a n v : ℕ) {rest : List ℕ} → Picked v (axesFrom a n) rest → v < a + n
+unfolding axesFrom
+axes-under a (suc n) v here = omega arith
+axes-under a (suc n) v (there p) = omega (arith, axes-under (suc a) n v p)
+
+-- the permutations of d axes are their arrangements
+permutation-arranged : (root : List ℕ) → Permutation root → Arranged (axesFrom 1 (length root)) root
+permutation-arranged root p = arranged-by root (axesFrom 1 (length root)) (sym (axes-length 1 (length root))) (λ i l. axes-in 1 (length root) (getD root i 0) (p .low i l) (omega (arith, p .high i l))) (p .apart)
+
+arranged-permutation : (d : ℕ) (root : List ℕ) → d ≡ length root → Arranged (axesFrom 1 d) root → Permutation root
+arranged-permutation d root e a = record {
+  low = λ i l. picked-over (axes-rise 1 d) (arranged-in a i l .picked);
+  high = λ i l. omega (arith, axes-under 1 d (getD root i 0) (arranged-in a i l .picked));
+  apart = arranged-apart (axes-rise 1 d) a;
+}
+
+-- so the roots are as many as the arrangements of d axes
+pub roots-count : (d : ℕ) → length (roots d) ≡ rootCount d
+unfolding roots
+roots-count d = arrangements-count d (axesFrom 1 d) (axes-length 1 d)
+
+-- a permutation stands among the roots, at its number
+pub record Numbered (root : List ℕ) : Type 0 where
+  pub small : numberIn (length root) root (length root) < length (roots (length root))
+  pub is : getD (roots (length root)) (numberIn (length root) root (length root)) [] ≡ root
+
+pub numbered : (root : List ℕ) → Permutation root → Numbered root
+unfolding roots
+numbered root p = record { small = rw (number, roots-count (length root)) (rank-under a); is = rw number (stands a) }
+  where
+    a : Arranged (axesFrom 1 (length root)) root
+    a = permutation-arranged root p
+
+    number : numberIn (length root) root (length root) ≡ rank a
+    number = number-is root ∙ sym (rank-is (axes-rise 1 (length root)) a)
+
+-- what stands at place i of the roots is a permutation with the number i
+module _ (d i : ℕ) (h : i < length (roots d)) where
+  r : Ranked (axesFrom 1 d) i
+  r = ranked d (axesFrom 1 d) i (axes-length 1 d) (rw (← roots-count d) h)
+
+  size : d ≡ length (r .entries)
+  size = sym (axes-length 1 d) ∙ arranged-length (r .arranged)
+
+  is : getD (roots d) i [] ≡ r .entries
+  unfolding roots
+  is = ap (λ (n : ℕ). getD (arrangements n (axesFrom 1 d)) i []) size ∙ ap (λ (k : ℕ). getD (arrangements (length (r .entries)) (axesFrom 1 d)) k []) (sym (r .is)) ∙ stands (r .arranged)
+
+  pub roots-length : length (getD (roots d) i []) ≡ d
+  roots-length = ap length is ∙ sym size
+
+  pub roots-permutation : Permutation (getD (roots d) i [])
+  roots-permutation = subst Permutation (sym is) (arranged-permutation d (r .entries) size (r .arranged))
+
+  pub roots-number : numberIn d (getD (roots d) i []) d ≡ i
+  roots-number = ap (λ (n : ℕ). numberIn n (getD (roots d) i []) n) (sym roots-length) ∙ number-is (getD (roots d) i []) ∙ ap numberOf is ∙ sym (rank-is (axes-rise 1 d) (r .arranged)) ∙ r .is
+
+-- no root stands twice
+pub roots-apart : (d i j : ℕ) → i < length (roots d) → j < length (roots d) → getD (roots d) i [] ≡ getD (roots d) j [] → i ≡ j
+roots-apart d i j h l q = sym (roots-number d i h) ∙ ap (λ (root : List ℕ). numberIn d root d) q ∙ roots-number d j l
+
+pub roots-good : (d : ℕ) → isDimension d ≡ true → (i : ℕ) → i < length (roots d) → GoodRoot (getD (roots d) i [])
+roots-good d e i h = record { dimension = rw (roots-length d i h) e; permutation = roots-permutation d i h }
+
+pub roots-some : (d : ℕ) → 0 < length (roots d)
+roots-some d = omega (arith, roots-count d, count-some d)
+
+pub roots-few : (d : ℕ) → isDimension d ≡ true → length (roots d) ≤ 24
+roots-few d e = omega (arith, roots-count d, counts-rise d 4 (dimension d e .few), most)
+  where
+    most : rootCount 4 ≡ 24
+    most = unfold rootCount in refl

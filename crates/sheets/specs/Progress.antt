@@ -240,7 +240,7 @@ module _ {sheet : List ℕ} {s : State} (g : Going sheet s) where
 
       -- a good sheet that begins so has the leaf next
       fits : Begins sheetMark sampleWidth (take (s .offset + n) sheet) → Fits s d leaf
-      fits b = record { dimension-fits = same; root-fits = roots-apart d is-d (leaf .root) (s .root) number-in (next .0) (number-is ∙ sym (next .1)); start-fits = leaf-start ∙ next-start d is-d (g .cells) (s .root) (s .start) w c (it .good) axes u f }
+      fits b = record { dimension-fits = same; root-fits = roots-apart d (leaf .root) (s .root) number-in (next .0) (number-is ∙ sym (next .1)); start-fits = leaf-start ∙ next-start d is-d (g .cells) (s .root) (s .start) w c (it .good) axes u f }
         where
           k : Cut sheetMark sampleWidth (b .good .cells) (g .cells ++ c ∷ []) (b .rest)
           k = cut sheetMark sampleWidth (b .rest) more-listed (listed-good (b .good)) refl
@@ -339,8 +339,8 @@ module _ {sheet : List ℕ} {s : State} (g : Going sheet s) where
         let k = cut sheetMark sampleWidth [] all-listed (listed-good h) (sym (append-nil sheet)) in
         k .is ∙ ap (λ (l : List Cell). g .cells ++ l) (listed-empty sheetMark sampleWidth (k .listed) refl) ∙ append-nil (g .cells)
 
-    no-roots : (d : ℕ) → isDimension d ≡ true → roots d ≡ [] → ⊥
-    no-roots d e q = omega (arith, roots-some d e, ap length q)
+    no-roots : (d : ℕ) → roots d ≡ [] → ⊥
+    no-roots d q = omega (arith, roots-some d, ap length q)
 
     over-in : {m : ℕ} (h : GoodSheet sheetMark sampleWidth sheet m) → (x : frontier.State) × Follows (frontier.state (roots (h .dimension)) []) (g .cells) x × (x .roots ≡ [])
     over-in h = good-follows (subst (Leaves (roots (h .dimension)) (greatestDepth (h .dimension))) (the-cells h) (h .leaves))
@@ -351,7 +351,7 @@ module _ {sheet : List ℕ} {s : State} (g : Going sheet s) where
         never : {m : ℕ} → Front (g .cells) s → GoodSheet sheetMark sampleWidth sheet m → ⊥
         never (fresh a b r t) h =
             let o = over-in h in
-            no-roots (h .dimension) (h .is-dimension) (ap (λ (x : frontier.State). x .roots) (follows-one end (subst (λ (l : List Cell). Follows (frontier.state (roots (h .dimension)) []) l (o .0)) a (o .1))) ∙ o .2)
+            no-roots (h .dimension) (ap (λ (x : frontier.State). x .roots) (follows-one end (subst (λ (l : List Cell). Follows (frontier.state (roots (h .dimension)) []) l (o .0)) a (o .1))) ∙ o .2)
         never (within a l w) h = omega (arith, dimension (s .dimension) a .two)
 
     pub go-early : s .dimension ≢ 0 → s .root ≢ rootCount (s .dimension) → SheetIs sheet (told refusedLeaf (s .offset) 0)
@@ -364,7 +364,7 @@ module _ {sheet : List ℕ} {s : State} (g : Going sheet s) where
             let e : h .dimension ≡ s .dimension = same-dimension l (subst (CellsIn (h .dimension)) (the-cells h) (leaves-cells (h .dimension) (h .is-dimension) (h .leaves))) (w .cells-in) in
             let f : Follows (frontier.state (roots (s .dimension)) []) (g .cells) (o .0) = subst (λ (d : ℕ). Follows (frontier.state (roots d) []) (g .cells) (o .0)) e (o .1) in
             let none : drop (s .root) (roots (s .dimension)) ≡ [] = ap (λ (x : frontier.State). x .roots) (follows-one (w .follows) f) ∙ o .2 in
-            q (omega (arith, w .root-in, length-drop (s .root) (roots (s .dimension)), ap length none, roots-count (s .dimension) a))
+            q (omega (arith, w .root-in, length-drop (s .root) (roots (s .dimension)), ap length none, roots-count (s .dimension)))
 
     pub go-dimension : s .dimension ≢ 0 → isDimension (s .dimension) ≡ true
     go-dimension z = by (g .front)
@@ -379,7 +379,7 @@ module _ {sheet : List ℕ} {s : State} (g : Going sheet s) where
         by : Front (g .cells) s → SheetIs sheet (told done 0 (s .records))
         by (fresh a b r t) = absurd (z b)
         by (within a l w) =
-            let past : length (roots (s .dimension)) ≤ s .root = omega (arith, roots-count (s .dimension) a) in
+            let past : length (roots (s .dimension)) ≤ s .root = omega (arith, roots-count (s .dimension)) in
             let none : drop (s .root) (roots (s .dimension)) ≡ [] = drop-of-length-le (roots (s .dimension)) past in
             good (record { dimension = s .dimension; is-dimension = a; cells = g .cells; leaves = follows-good (subst (λ (rs : List (List ℕ)). Follows (frontier.state (roots (s .dimension)) []) (g .cells) (frontier.state rs (w .path))) none (w .follows)) (cells-within (w .cells-in)); records = listed-records (w .cells-in) all-listed; count = g .count }) refl
 

@@ -27,7 +27,7 @@ module _ {mark : List ℕ} {width : ℕ} {sheet : List ℕ} {n : ℕ} (g : GoodS
   good-some = go (g .cells) (g .leaves)
     where
       go : (cs : List Cell) → Leaves (roots (g .dimension)) (greatestDepth (g .dimension)) cs → 0 < length cs
-      go [] v = let f = good-follows v in let e : roots (g .dimension) ≡ [] = ap (λ (s : State). s .roots) (follows-one end (f .1)) ∙ f .2 in absurd (omega (arith, roots-some (g .dimension) (g .is-dimension), ap length e))
+      go [] v = let f = good-follows v in let e : roots (g .dimension) ≡ [] = ap (λ (s : State). s .roots) (follows-one end (f .1)) ∙ f .2 in absurd (omega (arith, roots-some (g .dimension), ap length e))
       go (c ∷ cs) v = omega arith
 
   module _ {n′ : ℕ} (g′ : GoodSheet mark width sheet n′) where

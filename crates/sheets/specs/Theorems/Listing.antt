@@ -206,7 +206,7 @@ roots-by d [] g e = roots-none
 roots-by d (r ∷ rs) g e = roots-more (g 0 (omega arith)) (e 0 (omega arith)) (roots-by d rs (λ i h. g (suc i) (omega arith)) (λ i h. e (suc i) (omega arith)))
 
 pub roots-in : (d : ℕ) → isDimension d ≡ true → RootsIn d (roots d)
-roots-in d e = roots-by d (roots d) (roots-good d e) (roots-length d e)
+roots-in d e = roots-by d (roots d) (roots-good d e) (roots-length d)
 
 advance-in : {d : ℕ} (r : List ℕ) (rs : List (List ℕ)) (p : List Bool) → RootsIn d (r ∷ rs) → RootsIn d (advance r rs p .roots)
 unfolding advance
