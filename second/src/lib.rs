@@ -10,8 +10,10 @@ pub mod codes; // "The code": the step rule and the bytes
 pub mod crossing; // "Crossing", by geometry and by listing all cells
 pub mod entries; // the expected outcome of each entry on a code
 pub mod finder; // the root and the path of a code, by search
+pub mod forests; // good sheets, as leaves of random forests
 pub mod inputs; // good, damaged and random inputs
 pub mod lent; // lent outputs and the comparison of outcomes
+pub mod listing; // "The listing program": the text of a sheet
 pub mod random; // a repeatable source of numbers
 pub mod sheets; // "Sheets": records, and the forest that they are the leaves of
 pub mod sizes; // sizes and refusal numbers

@@ -2,6 +2,7 @@
 
 use crate::answers::SheetAnswer;
 use crate::bisection::roots;
+use crate::codes::Code;
 use crate::entries::Reading;
 use crate::finder::{Finder, Found};
 use crate::sizes::*;
@@ -16,7 +17,7 @@ pub fn samples_length(d: usize) -> usize {
 }
 
 /// A refusal and the offset of the record at which it was found.
-type Refused = (u8, usize);
+pub type Refused = (u8, usize);
 
 /// A whole record that passed its own tests: its cell, and where the bytes after it start.
 struct Record {
@@ -31,6 +32,19 @@ enum Tree {
 }
 
 impl Tree {
+    fn codes(&self, here: &Code, codes: &mut Vec<Vec<u8>>) {
+        match self {
+            Tree::Leaf => codes.push(here.bytes()),
+            Tree::Split(zero, one) => {
+                for (which, tree) in [zero, one].into_iter().enumerate() {
+                    let mut child = here.clone();
+                    child.step(which as u8);
+                    tree.codes(&child, codes);
+                }
+            }
+        }
+    }
+
     fn leaves(&self) -> usize {
         match self {
             Tree::Leaf => 1,
@@ -48,6 +62,17 @@ pub struct Sheets<'a> {
 impl<'a> Sheets<'a> {
     pub fn new(finder: &'a Finder) -> Sheets<'a> {
         Sheets { finder, known: RefCell::new(HashMap::new()) }
+    }
+
+    /// The codes of a good sheet's leaves, each made from its place in the tree, not read from the sheet.
+    pub fn codes(&self, sheet: &[u8]) -> Result<Vec<Vec<u8>>, Refused> {
+        let trees = self.forest(sheet)?;
+        let d = sheet[MARK.len()] as usize;
+        let mut codes = Vec::new();
+        for (root, tree) in roots(d).iter().zip(&trees) {
+            tree.codes(&Code::root(root), &mut codes);
+        }
+        Ok(codes)
     }
 
     pub fn check(&self, sheet: &[u8]) -> SheetAnswer {

@@ -2,12 +2,12 @@
 
 use second::answers::SheetAnswer;
 use second::bisection::roots;
-use second::codes::Code;
 use second::finder::{Finder, Found};
+use second::forests::{bytes, good_sheet, leaf, Leaf};
 use second::inputs::{self, Options};
 use second::lent::Tally;
 use second::random::Random;
-use second::sheets::{samples_length, Sheets, MARK};
+use second::sheets::{Sheets, MARK};
 use second::sizes::*;
 use second::worked;
 
@@ -17,53 +17,6 @@ extern "C" {
 
 fn library(sheet: &[u8]) -> SheetAnswer {
     unsafe { rmk_sheet_check(sheet.as_ptr(), sheet.len()) }
-}
-
-/// A cell with its record's bytes.
-#[derive(Clone)]
-struct Leaf {
-    cell: Found,
-    record: Vec<u8>,
-}
-
-/// A record of any samples, some of which look like marks.
-fn leaf(random: &mut Random, root: &[u8], path: &[u8]) -> Leaf {
-    let code = Code::at(root, path).bytes();
-    let mut samples = random.bytes(samples_length(root.len()));
-    if random.once_in(2) {
-        samples[2..4].copy_from_slice(&MARK);
-    }
-    let cell = Found { root: root.to_vec(), path: path.to_vec() };
-    Leaf { cell, record: [&MARK[..], &code, &samples].concat() }
-}
-
-/// The leaves of a tree that is split toward the target and elsewhere now and then.
-fn grow(random: &mut Random, cell: Found, target: &Found, leaves: &mut Vec<Leaf>) {
-    let toward = target.root == cell.root && target.path.starts_with(&cell.path);
-    let deeper = cell.path.len() < target.path.len();
-    let may = cell.path.len() < greatest_depth(cell.root.len());
-    if !(toward && deeper || may && random.once_in(6)) {
-        return leaves.push(leaf(random, &cell.root, &cell.path));
-    }
-    for which in 0..2 {
-        let path = [&cell.path[..], &[which]].concat();
-        grow(random, Found { root: cell.root.clone(), path }, target, leaves);
-    }
-}
-
-/// The leaves of a good sheet that has one at the depth at least.
-fn good_sheet(random: &mut Random, d: usize, depth: usize) -> Vec<Leaf> {
-    let path = inputs::good_path(random, depth);
-    let target = Found { root: inputs::good_root(random, d), path };
-    let mut leaves = Vec::new();
-    for root in roots(d) {
-        grow(random, Found { root, path: Vec::new() }, &target, &mut leaves);
-    }
-    leaves
-}
-
-fn bytes(leaves: &[Leaf]) -> Vec<u8> {
-    leaves.iter().flat_map(|leaf| leaf.record.clone()).collect()
 }
 
 struct Comparison<'a> {

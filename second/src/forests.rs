@@ -1,0 +1,77 @@
+//! Good sheets: leaves of random forests, with their records.
+
+use crate::bisection::roots;
+use crate::codes::Code;
+use crate::finder::Found;
+use crate::inputs;
+use crate::random::Random;
+use crate::sheets::{samples_length, MARK};
+use crate::sizes::*;
+
+/// A cell with its record's bytes.
+#[derive(Clone)]
+pub struct Leaf {
+    pub cell: Found,
+    pub record: Vec<u8>,
+}
+
+/// A record of any samples, some of which look like marks.
+pub fn leaf(random: &mut Random, root: &[u8], path: &[u8]) -> Leaf {
+    let code = Code::at(root, path).bytes();
+    let mut samples = random.bytes(samples_length(root.len()));
+    if random.once_in(2) {
+        samples[2..4].copy_from_slice(&MARK);
+    }
+    let cell = Found { root: root.to_vec(), path: path.to_vec() };
+    Leaf { cell, record: [&MARK[..], &code, &samples].concat() }
+}
+
+/// The leaves of a tree that is split toward the target and elsewhere now and then.
+fn grow(random: &mut Random, cell: Found, target: &Found, leaves: &mut Vec<Leaf>) {
+    let toward = target.root == cell.root && target.path.starts_with(&cell.path);
+    let deeper = cell.path.len() < target.path.len();
+    let may = cell.path.len() < greatest_depth(cell.root.len());
+    if !(toward && deeper || may && random.once_in(6)) {
+        return leaves.push(leaf(random, &cell.root, &cell.path));
+    }
+    for which in 0..2 {
+        let path = [&cell.path[..], &[which]].concat();
+        grow(random, Found { root: cell.root.clone(), path }, target, leaves);
+    }
+}
+
+/// The leaves of a good sheet that has one at the depth at least.
+pub fn good_sheet(random: &mut Random, d: usize, depth: usize) -> Vec<Leaf> {
+    let path = inputs::good_path(random, depth);
+    let target = Found { root: inputs::good_root(random, d), path };
+    let mut leaves = Vec::new();
+    for root in roots(d) {
+        grow(random, Found { root, path: Vec::new() }, &target, &mut leaves);
+    }
+    leaves
+}
+
+/// A good sheet of so many bytes: leaves are split at random until it has them, from the roots again where it
+/// gets past them.
+pub fn sheet_of_size(random: &mut Random, d: usize, size: usize) -> Vec<u8> {
+    loop {
+        let mut leaves: Vec<Leaf> = roots(d).iter().map(|root| leaf(random, root, &[])).collect();
+        let mut length: usize = leaves.iter().map(|leaf| leaf.record.len()).sum();
+        while length < size {
+            let at = random.below(leaves.len());
+            let Found { root, path } = leaves[at].cell.clone();
+            if path.len() < greatest_depth(d) {
+                let halves = [0, 1].map(|which| leaf(random, &root, &[&path[..], &[which]].concat()));
+                length += halves[0].record.len() + halves[1].record.len() - leaves[at].record.len();
+                leaves.splice(at..=at, halves);
+            }
+        }
+        if length == size {
+            return bytes(&leaves);
+        }
+    }
+}
+
+pub fn bytes(leaves: &[Leaf]) -> Vec<u8> {
+    leaves.iter().flat_map(|leaf| leaf.record.clone()).collect()
+}
