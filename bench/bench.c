@@ -15,7 +15,7 @@
 
 #define CODES 8192
 #define ROUNDS 600
-#define SHEET_BYTES 400000
+#define SHEET_BYTES 4000000 /* room for 100,000 records of at most 38 bytes */
 
 /* One program's entries. */
 typedef struct {
@@ -114,19 +114,58 @@ static void add_tree(const uint8_t *code, size_t length, unsigned deepest)
     }
 }
 
+/* The next root in dictionary order, from the digits on; 0 where there is none left. */
+static int next_root(uint8_t *root, unsigned *digits)
+{
+    unsigned d = root[0];
+    while (*digits < 1u << (2 * d)) {
+        for (unsigned a = 0; a < d; a++)
+            root[2 + a] = (uint8_t)(1 + (*digits >> (2 * (d - 1 - a)) & 3));
+        *digits += 1;
+        if (plain_code_check(root, 2u + d) == RMK_DONE)
+            return 1;
+    }
+    return 0;
+}
+
 /* All roots in dictionary order, their leaves of every depth. With so many deepest cells a root there are
- * at most 13,000 records, of 30 bytes at most: SHEET_BYTES has room for them. */
+ * at most 13,000 records. */
 static void random_sheet(uint8_t d)
 {
     static const unsigned deepest[] = {200, 60, 10};
+    uint8_t root[RMK_LONGEST_CODE] = {d, 0};
     sheet_length = sheet_records = 0;
-    for (unsigned digits = 0; digits < 1u << (2 * d); digits++) {
-        uint8_t root[RMK_LONGEST_CODE] = {d, 0};
-        for (unsigned a = 0; a < d; a++)
-            root[2 + a] = (uint8_t)(1 + (digits >> (2 * (d - 1 - a)) & 3));
-        if (plain_code_check(root, 2u + d) == RMK_DONE)
-            add_tree(root, 2u + d, deepest[d - 2]);
+    for (unsigned digits = 0; next_root(root, &digits);)
+        add_tree(root, 2u + d, deepest[d - 2]);
+}
+
+/* The tree of a cell with so many leaves, a quarter to three quarters of them in either half as a rule. */
+static void add_leaves(const uint8_t *code, size_t length, size_t leaves)
+{
+    if (leaves == 1) {
+        add_leaf(code, length);
+        return;
     }
+    size_t most = (size_t)1 << (RMK_HALVINGS * code[0] - code[1] - 1); /* that one half has room for */
+    size_t shares[2] = {leaves / 4 + random_below(leaves / 2 + 1), 0};
+    size_t low = leaves > most ? leaves - most : 1, high = leaves - 1 < most ? leaves - 1 : most;
+    shares[0] = shares[0] < low ? low : shares[0] > high ? high : shares[0];
+    shares[1] = leaves - shares[0];
+    for (uint8_t which = 0; which < 2; which++) {
+        uint8_t child[RMK_LONGEST_CODE];
+        rmk_written written = plain_child(code, length, which, child, sizeof child);
+        add_leaves(child, written.length, shares[which]);
+    }
+}
+
+/* A good sheet of so many leaves, in even parts on the roots. */
+static void sized_sheet(uint8_t d, size_t leaves)
+{
+    uint8_t root[RMK_LONGEST_CODE] = {d, 0};
+    size_t left = d == 2 ? 2 : d == 3 ? 6 : 24;
+    sheet_length = sheet_records = 0;
+    for (unsigned digits = 0; next_root(root, &digits); left--)
+        add_leaves(root, 2u + d, (leaves - sheet_records) / left);
 }
 
 /* A round calls one entry on every sample and gives a sum of what it answered. */
@@ -232,25 +271,46 @@ static int by_size(const void *p, const void *q)
     return (a > b) - (a < b);
 }
 
-static double median(double *values)
+static double median(double *values, size_t count)
 {
-    qsort(values, ROUNDS, sizeof *values, by_size);
-    return values[ROUNDS / 2];
+    qsort(values, count, sizeof *values, by_size);
+    return values[count / 2];
 }
 
-/* One row of the table, for each of `calls` calls or records. The ratio is the median of the rounds' own
- * ratios: the two halves of a round meet the same machine, busy or not. */
-static void row(const char *name, round_of *round, size_t calls)
+/* The medians of some rounds. That of the ratio is the median of the rounds' own ratios: the two halves of a
+ * round meet the same machine, busy or not. */
+typedef struct {
+    double our_time, plain_time, ratio;
+} medians;
+
+static medians measure(round_of *round, size_t rounds)
 {
     static double our_times[ROUNDS], plain_times[ROUNDS], ratios[ROUNDS];
     uint64_t sum = round(&plain);
-    for (size_t n = 0; n < ROUNDS; n++) {
+    for (size_t n = 0; n < rounds; n++) {
         our_times[n] = time_of(round, &ours, sum);
         plain_times[n] = time_of(round, &plain, sum);
         ratios[n] = our_times[n] / plain_times[n];
     }
-    printf("| %s | %.1f | %.1f | %.2f |\n", name, median(our_times) / (double)calls,
-           median(plain_times) / (double)calls, median(ratios));
+    medians m = {median(our_times, rounds), median(plain_times, rounds), median(ratios, rounds)};
+    return m;
+}
+
+/* One row of the first table, for each of `calls` calls or records. */
+static void row(const char *name, round_of *round, size_t calls)
+{
+    medians m = measure(round, ROUNDS);
+    printf("| %s | %.1f | %.1f | %.2f |\n", name, m.our_time / (double)calls, m.plain_time / (double)calls, m.ratio);
+}
+
+/* One row of the second: a good sheet, in millions of bytes a second, and our speed as a part of plain C's. */
+static void speed_row(uint8_t d, size_t leaves)
+{
+    sized_sheet(d, leaves);
+    medians m = measure(sheet_check_round, ROUNDS / 10);
+    double bytes = (double)sheet_length * 1e3;
+    printf("| %u | %zu | %zu | %.0f | %.0f | %.2f |\n", d, sheet_records, sheet_length, bytes / m.our_time,
+           bytes / m.plain_time, 1 / m.ratio);
 }
 
 int main(void)
@@ -273,5 +333,11 @@ int main(void)
         random_sheet(d);
         row(sheet_names[d - 2], sheet_check_round, sheet_records);
     }
+    if (!ours.sheet_check)
+        return 0;
+    printf("\n| dimension | leaves | bytes | ours, MB/s | plain C, MB/s | speed |\n|---|---|---|---|---|---|\n");
+    for (uint8_t d = 2; d <= 4; d++)
+        for (size_t leaves = 1000; leaves <= 100000; leaves *= 10)
+            speed_row(d, leaves);
     return 0;
 }
