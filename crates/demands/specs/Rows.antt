@@ -10,6 +10,8 @@ use Rattle.bisection.specs.Refusals.{done, refusedFace, codeRefusal}
 use Rattle.codes.specs.declared.Written.{Written}
 use Rattle.codes.specs.Outcomes.{PathToCode, cellBytes, Vertices, Child}
 use Rattle.crossing.specs.Outcome.{Crosses}
+use Rattle.sheets.specs.Sheets.{told, SheetIs}
+use Rattle.listing.specs.Texts.{Lists}
 
 pub data Row : Type 0 where
   path-to-code : (root path code : List ℕ) → Row
@@ -19,6 +21,8 @@ pub data Row : Type 0 where
   cross : (code : List ℕ) (facet : ℕ) (answer : List ℕ) (place : ℕ) → Row
   -- refusal 8
   walled : (code : List ℕ) (facet : ℕ) → Row
+  sheet-check : (sheet : List ℕ) (records : ℕ) → Row
+  listing : (sheet text : List ℕ) → Row
 
 -- the answer stands at the front of every buffer with room for it, and the other cells keep their content
 unfoldable pub Answers : (List ℕ → Written → List ℕ → Type 0) → List ℕ → Type 0
@@ -32,6 +36,8 @@ Holds (child-of code which answer) = Answers (Child code which) answer
 Holds (cross code facet answer place) = (before : List ℕ) → length answer ≤ length before
     → Crosses code facet before (record { refusal = done; place = place; length = length answer }) (answer ++ drop (length answer) before)
 Holds (walled code facet) = (before : List ℕ) → Crosses code facet before (record { refusal = refusedFace; place = 0; length = 0 }) before
+Holds (sheet-check sheet records) = SheetIs sheet (told done 0 records)
+Holds (listing sheet text) = (before : List ℕ) → Lists sheet before (length text) (text ++ drop (length text) before)
 
 unfoldable pub Every : List Row → Type 0
 Every [] = Unit {0}

@@ -20,7 +20,10 @@ use Rattle.codes.specs.Heads.{first-done, last-holds}
 use Rattle.codes.specs.PathAnswers.{good-root, path-0, code-of-length}
 use Rattle.codes.specs.Relatives.{done-writes, child-0, child-length}
 use Rattle.crossing.specs.Outcome.{Crosses, crossed, wall}
-use Rattle.demands.specs.Rows.{Row, path-to-code, vertices, code-check, child-of, cross, walled, Answers, Holds, Every}
+use Rattle.sheets.specs.Sheets.{sheetMark, sampleWidth, GoodSheet, good}
+use Rattle.listing.specs.Texts.{sheetLimit, goodText, Listing}
+use Rattle.listing.specs.Texts.{good as good-listing}
+use Rattle.demands.specs.Rows.{Row, path-to-code, vertices, code-check, child-of, cross, walled, sheet-check, listing, Answers, Holds, Every}
 
 -- a root and a path that are not refused, and their code
 pub record PathShown (root path code : List ℕ) : Type 0 where
@@ -56,6 +59,16 @@ pub record WallShown (code : List ℕ) (i : ℕ) : Type 0 where
   pub facet : leb i (dimensionOf code) ≡ true
   pub blocked : isBlocked code i ≡ true
 
+-- a good sheet, small enough to be listed, and its text
+pub record SheetShown (sheet : List ℕ) (records : ℕ) : Type 0 where
+  pub is-good : GoodSheet sheetMark sampleWidth sheet records
+
+pub record ListingShown (sheet text : List ℕ) : Type 0 where
+  pub records : ℕ
+  pub is-good : GoodSheet sheetMark sampleWidth sheet records
+  pub small : leb (length sheet) sheetLimit ≡ true
+  pub is : goodText (is-good .dimension) (is-good .cells) ≡ text
+
 unfoldable pub Shown : Row → Type 0
 Shown (path-to-code root path code) = PathShown root path code
 Shown (vertices code cell) = CellShown code cell
@@ -63,6 +76,8 @@ Shown (code-check code refusal) = refusal ≡ codeRefusal code
 Shown (child-of code which answer) = ChildShown code which answer
 Shown (cross code facet answer place) = CrossShown code facet answer place
 Shown (walled code facet) = WallShown code facet
+Shown (sheet-check sheet records) = SheetShown sheet records
+Shown (listing sheet text) = ListingShown sheet text
 
 path-row : {root path code : List ℕ} → PathShown root path code → Answers (PathToCode root path) code
 unfolding Answers
@@ -120,6 +135,10 @@ wall-row {code} {i} a before = record
     il : i ≤ dimensionOf code
     il = leb-true i (dimensionOf code) (a .facet)
 
+listing-row : {sheet text : List ℕ} → ListingShown sheet text → Holds (listing sheet text)
+unfolding Holds
+listing-row {sheet} {text} a before = record { text = text; listing = subst (Listing sheet) (a .is) (good-listing (leb-true (length sheet) sheetLimit (a .small)) (a .is-good)); length-is = refl; front = refl }
+
 row : (r : Row) → Shown r → Holds r
 unfolding Shown Holds
 row (path-to-code root path code) a = path-row a
@@ -128,6 +147,8 @@ row (code-check code refusal) a = a
 row (child-of code which answer) a = child-row a
 row (cross code facet answer place) a = cross-row a
 row (walled code facet) a = wall-row a
+row (sheet-check sheet records) a = good (a .is-good) refl
+row (listing sheet text) a = listing-row a
 
 unfoldable pub EveryShown : List Row → Type 0
 EveryShown [] = Unit {0}

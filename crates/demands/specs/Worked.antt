@@ -1,7 +1,10 @@
 -- Document 01, "Cells worked by hand": the proved set, as rows of one table under one claim.
 use mathlib.Core.Path.{_≡_, refl}
 use mathlib.Core.List.{List, [], _∷_}
+use Prim.Native.Nat.{ℕ}
 use Rattle.dimension.specs.Sizes.{isDimension, halvings, cubeSide, greatestDepth, level, splitPlace, boxDepth, codeLength}
+use native.Mathlib.Omega.{arith}
+use Rattle.bisection.specs.Roots.{roots, arrangements, joined, picks, axesFrom}
 use Rattle.bisection.specs.Cells.{midpoint, child, moved, corners, rootCell, cellBelow, cellOf}
 use Rattle.bisection.specs.Codes.{minus, axis, negated, turned, stepped, high, minusOn, orthantTo, orthant, step, nameBelow, nameOf, bytes, codeOf, dimensionOf, depthOf, entriesOf, orthantsOf, partsOf, childCode}
 use Rattle.bisection.specs.Refusals.{done, refusedSign, need, _then_, each, fresh, permutes, orthantsFit, ownMinus, signsOwn, headRefusal, bodyRefusal, codeRefusal}
@@ -11,8 +14,24 @@ use Rattle.bisection.specs.Theorems.Passing.{parentName, lastStep, unstepped, f
 use Rattle.bisection.specs.Theorems.Entries.{unturned}
 use Rattle.bisection.specs.Theorems.Table.{move, newAt, exchanged, negatedAt, entriesBy, flipped, runsOut, carried, orthantsBy, blockedBy, nextOwn, moveOf, blocked, acrossName, newPlace}
 use Rattle.codes.specs.Outcomes.{isRoot, isPath, pointBytes, cellBytes, cellLength}
-use Rattle.demands.specs.Rows.{Row, path-to-code, vertices, code-check, child-of, cross, walled, Every}
-use Rattle.demands.specs.Shown.{Shown, PathShown, CellShown, ChildShown, CrossShown, WallShown, EveryShown, every}
+use Rattle.sheets.specs.Forests.{cell, leaf, leaves, rootCells, within-none, within-more}
+use Rattle.sheets.specs.Forests.{none as forest-none, more as forest-more}
+use Rattle.sheets.specs.Sheets.{sheetMark, sampleWidth, none, more, GoodSheet}
+use Rattle.listing.specs.Texts.{digit, spelled, decimal, hex, numberLine, leafLine, leafLines, goodText}
+use Rattle.demands.specs.Rows.{Row, path-to-code, vertices, code-check, child-of, cross, walled, sheet-check, listing, Every}
+use Rattle.demands.specs.Shown.{Shown, PathShown, CellShown, ChildShown, CrossShown, WallShown, SheetShown, ListingShown, EveryShown, every}
+
+-- the 24 bytes of "The listing program", which P10 looks into: the leaves are the two roots
+abbrev pub twoLeaves : List ℕ
+twoLeaves = 0x43 ∷ 0x4C ∷ 0x02 ∷ 0x00 ∷ 0x01 ∷ 0x02 ∷ 0x0A ∷ 0x00 ∷ 0x14 ∷ 0x00 ∷ 0x32 ∷ 0x00 ∷ 0x43 ∷ 0x4C ∷ 0x02 ∷ 0x00 ∷ 0x02 ∷ 0x01 ∷ 0x0A ∷ 0x00 ∷ 0x1E ∷ 0x00 ∷ 0x32 ∷ 0x00 ∷ []
+
+-- and what is written of them: "dim 2", "0 02000102", "1 02000201", "leaves 2"
+abbrev pub twoLeavesText : List ℕ
+twoLeavesText =
+    0x64 ∷ 0x69 ∷ 0x6D ∷ 0x20 ∷ 0x32 ∷ 0x0A ∷
+    0x30 ∷ 0x20 ∷ 0x30 ∷ 0x32 ∷ 0x30 ∷ 0x30 ∷ 0x30 ∷ 0x31 ∷ 0x30 ∷ 0x32 ∷ 0x0A ∷
+    0x31 ∷ 0x20 ∷ 0x30 ∷ 0x32 ∷ 0x30 ∷ 0x30 ∷ 0x30 ∷ 0x32 ∷ 0x30 ∷ 0x31 ∷ 0x0A ∷
+    0x6C ∷ 0x65 ∷ 0x61 ∷ 0x76 ∷ 0x65 ∷ 0x73 ∷ 0x20 ∷ 0x32 ∷ 0x0A ∷ []
 
 unfoldable pub table : List Row
 table =
@@ -46,9 +65,24 @@ table =
     code-check (0x02 ∷ 0x00 ∷ 0x01 ∷ 0x82 ∷ []) refusedSign ∷
     code-check (0x02 ∷ 0x01 ∷ 0x01 ∷ 0x82 ∷ []) done ∷
     child-of (0x02 ∷ 0x00 ∷ 0x02 ∷ 0x01 ∷ []) 1 (0x02 ∷ 0x01 ∷ 0x01 ∷ 0x82 ∷ []) ∷
+    -- P10's sheet
+    sheet-check twoLeaves 2 ∷
+    listing twoLeaves twoLeavesText ∷
     []
+
+-- the sheet's forest: each root is a leaf
+two-leaves : GoodSheet sheetMark sampleWidth twoLeaves 2
+unfolding codeOf bytes nameOf nameBelow roots arrangements joined picks axesFrom rootCells leaves isDimension
+two-leaves = record {
+  dimension = 2;
+  is-dimension = refl;
+  cells = cell (1 ∷ 2 ∷ []) [] ∷ cell (2 ∷ 1 ∷ []) [] ∷ [];
+  leaves = record { forest = forest-more leaf refl (forest-more leaf refl forest-none); within = within-more {c = cell (1 ∷ 2 ∷ []) []} (omega arith) (within-more {c = cell (2 ∷ 1 ∷ []) []} (omega arith) within-none) };
+  records = more (0x0A ∷ 0x00 ∷ 0x14 ∷ 0x00 ∷ 0x32 ∷ 0x00 ∷ []) refl refl (more (0x0A ∷ 0x00 ∷ 0x1E ∷ 0x00 ∷ 0x32 ∷ 0x00 ∷ []) refl refl none);
+  count = refl;
+}
 
 -- the claim
 pub worked : Every table
-unfolding EveryShown Shown table codeOf bytes nameOf nameBelow step stepped turned negated minus axis orthant orthantTo minusOn high level splitPlace boxDepth codeLength cellOf cellBelow rootCell corners moved child midpoint cubeSide halvings greatestDepth isDimension childCode codeRefusal headRefusal bodyRefusal need _then_ each fresh permutes orthantsFit ownMinus signsOwn dimensionOf depthOf entriesOf orthantsOf partsOf isRoot isPath pointBytes cellBytes cellLength rootOf pathOf rootTo pathTo parentName lastStep unturned unstepped fewer move newAt exchanged negatedAt entriesBy flipped runsOut carried orthantsBy blockedBy nextOwn moveOf blocked acrossName newPlace
-worked = every table (record { dimension = refl; depth = refl; good = refl; steps = refl; is = refl }, (record { passes = refl; is = refl; size = refl }, (record { dimension = refl; depth = refl; good = refl; steps = refl; is = refl }, (record { passes = refl; is = refl; size = refl }, (record { dimension = refl; depth = refl; good = refl; steps = refl; is = refl }, (record { passes = refl; is = refl; size = refl }, (record { dimension = refl; depth = refl; good = refl; steps = refl; is = refl }, (record { passes = refl; is = refl; size = refl }, (record { dimension = refl; depth = refl; good = refl; steps = refl; is = refl }, (record { passes = refl; facet = refl; free = refl; is = refl; at = refl }, (record { passes = refl; facet = refl; blocked = refl }, (record { passes = refl; facet = refl; blocked = refl }, (record { passes = refl; facet = refl; free = refl; is = refl; at = refl }, (record { passes = refl; facet = refl; free = refl; is = refl; at = refl }, (record { passes = refl; facet = refl; free = refl; is = refl; at = refl }, (record { passes = refl; facet = refl; free = refl; is = refl; at = refl }, (record { passes = refl; facet = refl; blocked = refl }, (refl, (refl, (refl, (record { passes = refl; step = refl; deeper = refl; is = refl }, tt)))))))))))))))))))))
+unfolding EveryShown Shown table codeOf bytes nameOf nameBelow step stepped turned negated minus axis orthant orthantTo minusOn high level splitPlace boxDepth codeLength cellOf cellBelow rootCell corners moved child midpoint cubeSide halvings greatestDepth isDimension childCode codeRefusal headRefusal bodyRefusal need _then_ each fresh permutes orthantsFit ownMinus signsOwn dimensionOf depthOf entriesOf orthantsOf partsOf isRoot isPath pointBytes cellBytes cellLength rootOf pathOf rootTo pathTo parentName lastStep unturned unstepped fewer move newAt exchanged negatedAt entriesBy flipped runsOut carried orthantsBy blockedBy nextOwn moveOf blocked acrossName newPlace digit spelled decimal hex numberLine leafLine leafLines goodText two-leaves
+worked = every table (record { dimension = refl; depth = refl; good = refl; steps = refl; is = refl }, (record { passes = refl; is = refl; size = refl }, (record { dimension = refl; depth = refl; good = refl; steps = refl; is = refl }, (record { passes = refl; is = refl; size = refl }, (record { dimension = refl; depth = refl; good = refl; steps = refl; is = refl }, (record { passes = refl; is = refl; size = refl }, (record { dimension = refl; depth = refl; good = refl; steps = refl; is = refl }, (record { passes = refl; is = refl; size = refl }, (record { dimension = refl; depth = refl; good = refl; steps = refl; is = refl }, (record { passes = refl; facet = refl; free = refl; is = refl; at = refl }, (record { passes = refl; facet = refl; blocked = refl }, (record { passes = refl; facet = refl; blocked = refl }, (record { passes = refl; facet = refl; free = refl; is = refl; at = refl }, (record { passes = refl; facet = refl; free = refl; is = refl; at = refl }, (record { passes = refl; facet = refl; free = refl; is = refl; at = refl }, (record { passes = refl; facet = refl; free = refl; is = refl; at = refl }, (record { passes = refl; facet = refl; blocked = refl }, (refl, (refl, (refl, (record { passes = refl; step = refl; deeper = refl; is = refl }, (record { is-good = two-leaves }, (record { records = 2; is-good = two-leaves; small = refl; is = refl }, tt)))))))))))))))))))))))
