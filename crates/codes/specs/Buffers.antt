@@ -165,26 +165,34 @@ pub record Marking (d : ℕ) (es : List ℕ) (i mask : ℕ) : Type 0 where
 pub marking-none : (d : ℕ) (es : List ℕ) → Marking d es 0 0
 marking-none d es = record { fits = pow-pos d; marked = λ j l h. absurd (omega arith); free = λ j l h. high-none (axis (getD es j 0)) }
 
-module _ {d : ℕ} {es : List ℕ} (s : Signed d es) {i mask : ℕ} (k : Marking d es i mask) (h : i < d) where
-  pub marking-plus : minus (getD es i 0) ≡ false → Marking d es (i + 1) mask
-  marking-plus e = record { fits = k .fits; marked = λ j l q. go j l q (ℕ-discrete j i); free = λ j l q. k .free j (omega arith) q }
+-- the entry at place p, the next one or, past the last, one that is marked
+module _ {d : ℕ} {es : List ℕ} (s : Signed d es) {i mask : ℕ} (k : Marking d es i mask) (p : ℕ) (h : p < d) (here : i < d → p ≡ i) where
+  pub marking-plus : minus (getD es p 0) ≡ false → Marking d es (i + 1) mask
+  marking-plus e = record { fits = k .fits; marked = λ j l q. go j l q (decLt j i); free = λ j l q. k .free j (omega arith) q }
     where
-      go : (j : ℕ) → j < i + 1 → j < d → Dec (j ≡ i) → high mask (axis (getD es j 0)) ≡ minus (getD es j 0)
-      go j l q (yes p) = rw p (k .free i (omega arith) h ∙ sym e)
-      go j l q (no p) = k .marked j (omega arith) q
+      go : (j : ℕ) → j < i + 1 → j < d → Dec (j < i) → high mask (axis (getD es j 0)) ≡ minus (getD es j 0)
+      go j l q (yes w) = k .marked j w q
+      go j l q (no w) = subst (λ (x : ℕ). high mask (axis (getD es x 0)) ≡ minus (getD es x 0)) now (k .free p (omega (arith, now)) h ∙ sym e)
+        where
+          now : p ≡ j
+          now = here (omega arith) ∙ omega arith
 
-  pub marking-minus : minus (getD es i 0) ≡ true → Marking d es (i + 1) (raised mask (axis (getD es i 0)))
-  marking-minus e = record { fits = fits; marked = λ j l q. go j l q (ℕ-discrete j i); free = λ j l q. other j q (omega arith) ∙ k .free j (omega arith) q }
+  pub marking-minus : minus (getD es p 0) ≡ true → Marking d es (i + 1) (raised mask (axis (getD es p 0)))
+  marking-minus e = record { fits = fits; marked = λ j l q. go j l q (ℕ-discrete j p); free = λ j l q. other j q (omega (arith, here (omega arith))) ∙ k .free j (omega arith) q }
     where
       a : ℕ
-      a = axis (getD es i 0)
+      a = axis (getD es p 0)
       fits : raised mask a < 2 ^ d
-      fits = unfold raised in or-lt d mask (2 ^ (a - 1)) (k .fits) (pow-lt {i = a - 1} {j = d} (omega (arith, s .low i h, s .high i h)))
-      other : (j : ℕ) → j < d → j ≢ i → high (raised mask a) (axis (getD es j 0)) ≡ high mask (axis (getD es j 0))
-      other j q n = rw (raised-high mask a (axis (getD es j 0)) (s .low i h) (s .low j q), ne-eqb (axis (getD es j 0)) a (λ p. n (s .apart j i q h p))) refl
-      go : (j : ℕ) → j < i + 1 → j < d → Dec (j ≡ i) → high (raised mask a) (axis (getD es j 0)) ≡ minus (getD es j 0)
-      go j l q (yes p) = rw (p, raised-high mask a a (s .low i h) (s .low i h), eq-eqb a a refl) (sym e)
-      go j l q (no p) = other j q p ∙ k .marked j (omega arith) q
+      fits = unfold raised in or-lt d mask (2 ^ (a - 1)) (k .fits) (pow-lt {i = a - 1} {j = d} (omega (arith, s .low p h, s .high p h)))
+      other : (j : ℕ) → j < d → j ≢ p → high (raised mask a) (axis (getD es j 0)) ≡ high mask (axis (getD es j 0))
+      other j q n = rw (raised-high mask a (axis (getD es j 0)) (s .low p h) (s .low j q), ne-eqb (axis (getD es j 0)) a (λ w. n (s .apart j p q h w))) refl
+      go : (j : ℕ) → j < i + 1 → j < d → Dec (j ≡ p) → high (raised mask a) (axis (getD es j 0)) ≡ minus (getD es j 0)
+      go j l q (yes w) = rw (w, raised-high mask a a (s .low p h) (s .low p h), eq-eqb a a refl) (sym e)
+      go j l q (no w) = other j q w ∙ k .marked j (before (decLt i d)) q
+        where
+          before : Dec (i < d) → j < i
+          before (yes u) = omega (arith, here u)
+          before (no u) = omega arith
 
 pub marking-all : {d : ℕ} {es : List ℕ} → Signed d es → {i mask : ℕ} → Marking d es i mask → d ≤ i → mask ≡ orthant es
 marking-all s {i} {mask} k h = orthant-only s mask (k .fits) (λ j l. sym (k .marked j (omega arith) l))

@@ -9,6 +9,7 @@ pub mod Signs
 pub mod Masks
 -- The walks that test a code, and the order of refusals.
 pub mod Walks
+pub mod Marks
 pub mod Heads
 -- Entries in a buffer; one step on and one step back.
 pub mod Buffers

@@ -1,14 +1,15 @@
 -- Bits of masks, one at a time: what the code's or, and and xor do to an orthant's axes.
 use mathlib.Core.Path.{_≡_, refl, sym, ap, _∙_, subst}
-use mathlib.Core.Bool.{Bool, true, false, cond, not}
+use mathlib.Core.Bool.{Bool, true, false, cond, not, _&&_}
 use Prim.Native.Nat.{ℕ, zero, suc, _+_, _-_, _*_, _/_, _%_, _^_, min, max, _≤_, _<_}
+use mathlib.Core.Logic.{_≢_}
 use native.Mathlib.Omega.{arith}
 use native.Mathlib.Nat.{zero-div, mod-lt, one-mul, mod-eq-of-lt, div-self, div-eq-of-lt}
 use native.Mathlib.Decide.{ℕ-discrete, decLt}
-use lib.Dec.{eqb}
-use lib.Bits.{bitOr, bitAnd, bitXor, or-shr, or-mod, or-zero-l, and-mask}
+use lib.Dec.{eqb, leb}
+use lib.Bits.{bitOr, bitAnd, bitXor, or-shr, or-mod, or-zero-l, or-zero-r, or-lt, and-mask}
 use lib.Pow.{pow-pos, pow-lt, shr-shr, pow-add}
-use borrow.Author.Tests.{eq-eqb, ne-eqb}
+use borrow.Author.Tests.{eq-eqb, ne-eqb, le-leb, lt-leb}
 use Rattle.bisection.specs.Codes.{high}
 use Rattle.bisection.specs.Theorems.Orthants.{low-bit}
 
@@ -67,3 +68,46 @@ raised-high o b a h l = rw (bit-or o (2 ^ (b - 1)) (a - 1)) (go (ℕ-discrete a 
     go (yes e) f = rw (eq-eqb a b e) (ap (λ (u : ℕ). eqb (max x u) 1) (subst (λ (c : ℕ). 2 ^ (b - 1) / 2 ^ (c - 1) % 2 ≡ 1) (sym e) (bit-power-at (b - 1))) ∙ eq-eqb (max x 1) 1 (omega arith))
     go (no e) (yes f) = rw (ne-eqb a b e, bit-power-below (b - 1) (a - 1) (omega arith), same) refl
     go (no e) (no f) = rw (ne-eqb a b e, bit-power-above (b - 1) (a - 1) (omega arith), same) refl
+
+-- the byte that is high on one axis, where a byte has a bit for it
+unfoldable pub markOf : ℕ → ℕ
+markOf a = cond (leb 1 a && leb a 8) (2 ^ (a - 1)) 0
+
+pub mark-none : (a : ℕ) → a < 1 → markOf a ≡ 0
+unfolding markOf
+mark-none a h = rw (lt-leb 1 a h) refl
+
+pub mark-over : (a : ℕ) → 8 < a → markOf a ≡ 0
+unfolding markOf
+mark-over a h = rw (lt-leb a 8 h) (go (leb 1 a))
+  where
+    go : (t : Bool) → cond (t && false) (2 ^ (a - 1)) 0 ≡ 0
+    go true = refl
+    go false = refl
+
+pub mark-in : (a : ℕ) → 1 ≤ a → a ≤ 8 → markOf a ≡ 2 ^ (a - 1)
+unfolding markOf
+mark-in a h l = rw (le-leb 1 a h, le-leb a 8 l) refl
+
+pub mark-as : (a : ℕ) → 1 ≤ a → a ≤ 8 → 1 * 2 ^ (a - 1) % 2 ^ 8 ≡ markOf a
+mark-as a h l = shifted-bit (a - 1) (omega arith) ∙ sym (mark-in a h l)
+
+-- a mark or-ed to a byte makes its axis high, and changes no other
+module _ (o a : ℕ) where
+  pub marked-high : (b : ℕ) → 1 ≤ b → b ≤ 8 → high (bitOr o (markOf a)) b ≡ cond (eqb b a) true (high o b)
+  marked-high b h l = go (decLt a 1) (decLt 8 a)
+    where
+      still : a ≢ b → markOf a ≡ 0 → high (bitOr o (markOf a)) b ≡ cond (eqb b a) true (high o b)
+      still n e = rw (e, or-zero-r o, ne-eqb b a (λ q. n (sym q))) refl
+      go : Dec (a < 1) → Dec (8 < a) → high (bitOr o (markOf a)) b ≡ cond (eqb b a) true (high o b)
+      go (yes p) q = still (omega arith) (mark-none a p)
+      go (no p) (yes q) = still (omega arith) (mark-over a q)
+      go (no p) (no q) = rw (mark-in a (omega arith) (omega arith)) (unfold raised in raised-high o a b (omega arith) h)
+
+  pub marked-byte : o < 2 ^ 8 → bitOr o (markOf a) < 2 ^ 8
+  marked-byte h = or-lt 8 o (markOf a) h (go (decLt a 1) (decLt 8 a))
+    where
+      go : Dec (a < 1) → Dec (8 < a) → markOf a < 2 ^ 8
+      go (yes p) q = rw (mark-none a p) (pow-pos 8)
+      go (no p) (yes q) = rw (mark-over a q) (pow-pos 8)
+      go (no p) (no q) = rw (mark-in a (omega arith) (omega arith)) (pow-lt {i = a - 1} {j = 8} (omega arith))

@@ -9,7 +9,7 @@ use lib.Dec.{leb, ltb}
 use lib.ListN.{length, getD, take, drop, set, length-append, length-take, length-drop, length-set, List·getD-append}
 use lib.Seq.{paste, getD-at, take-append-le, take-append-add, drop-append-le}
 use borrow.Author.Tests.{le-leb, lt-leb, lt-ltb, le-ltb}
-use Rattle.dimension.specs.Sizes.{isDimension, greatestDepth, codeLength, splitPlace, boxDepth}
+use Rattle.dimension.specs.Sizes.{halvings, isDimension, greatestDepth, codeLength, splitPlace, boxDepth}
 use Rattle.dimension.specs.Laws.{Dimension, split-range}
 use Rattle.bisection.specs.Codes.{axis, minus, negated, high, Name, bytes, dimensionOf, depthOf, entriesOf, orthantsOf, partsOf, codeOf, IsCodeOf}
 use Rattle.bisection.specs.Refusals.{done, refusedRoot, refusedShort, need, _then_, sameSign, ownMinus, codeRefusal}
@@ -23,7 +23,7 @@ use Rattle.codes.specs.Heads.{fails, holds, last-fails, last-holds, firs
 use Rattle.codes.specs.Buffers.{atPlace}
 use Rattle.codes.specs.Steps.{StepsBack}
 use Rattle.codes.specs.Walks.{ownByte}
-use Rattle.codes.specs.Relatives.{Checked, checked, ParentReady, length-grows, refused-writes, done-writes}
+use Rattle.codes.specs.Relatives.{code-few, Checked, checked, ParentReady, length-grows, refused-writes, done-writes}
 
 -- a turn back of the first entries goes no further
 pub unstepped-append : (b n : ℕ) (es rest : List ℕ) → n < length es → unstepped b n (es ++ rest) ≡ unstepped b n es ++ rest
@@ -70,6 +70,9 @@ module _ {code out : List ℕ} {d D : ℕ} (r : ParentReady code d D out) where
   pub parent-four : 4 ≤ codeLength d D
   unfolding codeLength
   parent-four = omega (arith, r .axes, k .range .two)
+
+  pub parent-few : codeLength d D ≤ 6 + halvings
+  parent-few = omega (arith, parent-front, code-few k)
 
   pub parent-two : 2 ≤ length code
   unfolding codeLength

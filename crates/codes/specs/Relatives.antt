@@ -11,8 +11,8 @@ use lib.Dec.{eqb, leb, ltb}
 use lib.ListN.{length, getD, take, drop, set, length-append, length-take, length-drop, length-set, take-append-drop}
 use lib.Seq.{paste, getD-take, getD-drop, drop-append-add, take-at, drop-at, take-append-le, drop-append-le, take-all, drop-drop, take-set-le, drop-set-lt, take-take}
 use borrow.Author.Tests.{le-leb, lt-leb, lt-ltb, le-ltb}
-use Rattle.dimension.specs.Sizes.{isDimension, greatestDepth, codeLength, splitPlace, boxDepth}
-use Rattle.dimension.specs.Laws.{Dimension, dimension, split-range, depth-small, Within, Turned, deeper}
+use Rattle.dimension.specs.Sizes.{isDimension, halvings, greatestDepth, codeLength, splitPlace, boxDepth}
+use Rattle.dimension.specs.Laws.{Dimension, dimension, box-in, split-range, depth-small, Within, Turned, deeper}
 use Rattle.bisection.specs.Codes.{axis, Name, step, bytes, dimensionOf, depthOf, entriesOf, orthantsOf, partsOf, childCode, codeOf, IsCodeOf}
 use Rattle.bisection.specs.Refusals.{done, refusedStep, refusedDeepest, refusedRoot, refusedShort, need, _then_, codeRefusal}
 use Rattle.bisection.specs.Theorems.Passing.{Passes, step-passes, fewer, lastStep, unstepped, parentName}
@@ -38,6 +38,11 @@ checked code e = record { good = g; size = ap length (g .is) ∙ size; range = d
     g = good code e
     size : length (bytes (dimensionOf code) (depthOf code) (partsOf code)) ≡ 2 + dimensionOf code + boxDepth (dimensionOf code) (depthOf code)
     size = unfold bytes in simp length-append (omega (arith, g .passes .signed .size, g .passes .boxes .count))
+
+-- no code is longer than the longest
+pub code-few : {code : List ℕ} → Checked code → length code ≤ 6 + halvings
+unfolding codeLength
+code-few {code} k = omega (arith, k .size, k .range .few, box-in (dimensionOf code) (depthOf code) (omega (arith, k .range .two)) (k .good .depth))
 
 -- an answer that is refused, and one that is written
 pub refused-writes : {answer before : List ℕ} {r : Written} (refusal number : ℕ) → refusal ≡ number → number ≢ 0 → r .refusal ≡ number → r .length ≡ 0 → Writes refusal answer before r before
@@ -131,6 +136,9 @@ module _ {code out : List ℕ} {d D : ℕ} (r : ChildReady code d D out) where
   pub child-four : 4 ≤ length code
   unfolding codeLength
   child-four = omega (arith, size, r .axes, k .range .two)
+
+  pub child-few : length code ≤ 6 + halvings
+  child-few = code-few k
 
   pub child-two : 2 ≤ length code
   unfolding codeLength

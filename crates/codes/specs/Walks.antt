@@ -5,6 +5,7 @@ use mathlib.Core.List.{List, [], _∷_, _++_}
 use Prim.Native.Nat.{ℕ, zero, suc, _+_, _-_, _*_, _/_, _%_, _^_, _≤_, _<_}
 use native.Mathlib.Omega.{arith}
 use native.Mathlib.Numerals.{add-one}
+use native.Mathlib.Nat.{div-eq-of-lt, div-add-mod', mod-lt}
 use native.Mathlib.Decide.{ℕ-discrete, decLt}
 use lib.Dec.{T, eqb, leb, ltb}
 use lib.Bits.{bitOr, bitAnd, or-lt, or-add-and, and-le-l, and-le-r}
@@ -41,57 +42,9 @@ each-fails n f i l e = go (each n f) refl
 abbrev pub entryFits : ℕ → List ℕ → ℕ → Bool
 entryFits d es i = leb 1 (axis (getD es i 0)) && leb (axis (getD es i 0)) d && fresh es (axis (getD es i 0)) i
 
-pub record Seen (d : ℕ) (es : List ℕ) (i seen : ℕ) : Type 0 where
-  pub passed : each i (entryFits d es) ≡ true
-  pub marks : (a : ℕ) → 1 ≤ a → high seen a ≡ not (fresh es a i)
-
-pub seen-none : (d : ℕ) (es : List ℕ) → Seen d es 0 0
-unfolding each fresh
-seen-none d es = record { passed = refl; marks = λ a l. high-none a }
-
-fresh-more : (es : List ℕ) (a i : ℕ) → fresh es a (i + 1) ≡ (not (eqb (axis (getD es i 0)) a) && fresh es a i)
-unfolding fresh each
-fresh-more es a i = rw (add-one i) refl
-
 and-false : (s : Bool) → (s && false) ≡ false
 and-false true = refl
 and-false false = refl
-
-module _ {d : ℕ} {es : List ℕ} {i seen : ℕ} (s : Seen d es i seen) (a : ℕ) (is : a ≡ axis (getD es i 0)) where
-  pub seen-next : 1 ≤ a → a ≤ d → high seen a ≡ false → Seen d es (i + 1) (raised seen a)
-  seen-next l u h = record
-    { passed = each-more i (entryFits d es) (s .passed) (and-both (leb 1 (axis (getD es i 0)) && leb (axis (getD es i 0)) d) (fresh es (axis (getD es i 0)) i)
-        (and-both (leb 1 (axis (getD es i 0))) (leb (axis (getD es i 0)) d) (le-leb 1 (axis (getD es i 0)) (rw is at l)) (le-leb (axis (getD es i 0)) d (rw is at u)))
-        (subst (λ (b : ℕ). fresh es b i ≡ true) is (not-false (fresh es a i) (sym (s .marks a l) ∙ h))))
-    ; marks = λ b k. raised-high seen a b l k ∙ rw (fresh-more es b i, ← is) (go b k (ℕ-discrete b a)) }
-    where
-      not-false : (t : Bool) → not t ≡ false → t ≡ true
-      not-false true e = refl
-      not-false false e = absurd (subst T e tt)
-      go : (b : ℕ) → 1 ≤ b → Dec (b ≡ a) → cond (eqb b a) true (high seen b) ≡ not (not (eqb a b) && fresh es b i)
-      go b k (yes e) = rw (eq-eqb b a e, eq-eqb a b (sym e)) refl
-      go b k (no e) = rw (ne-eqb b a e, ne-eqb a b (λ q. e (sym q))) (s .marks b k)
-
-  fails-at : i < d → entryFits d es i ≡ false → false ≡ permutes d es
-  unfolding permutes
-  fails-at l e = sym (each-fails d (entryFits d es) i l e)
-
-  pub axis-none : i < d → a < 1 → false ≡ permutes d es
-  axis-none l h = fails-at l (rw (lt-leb 1 (axis (getD es i 0)) (rw is at h)) refl)
-
-  pub axis-over : i < d → d < a → false ≡ permutes d es
-  axis-over l h = fails-at l (rw (lt-leb (axis (getD es i 0)) d (rw is at h), and-false (leb 1 (axis (getD es i 0)))) refl)
-
-  pub axis-twice : i < d → 1 ≤ a → high seen a ≡ true → false ≡ permutes d es
-  axis-twice l k h = fails-at l (rw (subst (λ (b : ℕ). fresh es b i ≡ false) is (not-true (fresh es a i) (sym (s .marks a k) ∙ h))) (and-false (leb 1 (axis (getD es i 0)) && leb (axis (getD es i 0)) d)))
-    where
-      not-true : (t : Bool) → not t ≡ true → t ≡ false
-      not-true true e = absurd (subst T (sym e) tt)
-      not-true false e = refl
-
-pub seen-all : {d : ℕ} {es : List ℕ} {i seen : ℕ} → Seen d es i seen → i ≤ d → d ≤ i → true ≡ permutes d es
-unfolding permutes
-seen-all {d} {es} {i} s l u = sym (subst (λ (n : ℕ). each n (entryFits d es) ≡ true) (omega arith) (s .passed))
 
 -- only the first d entries count
 pub permutes-take : (d : ℕ) (l : List ℕ) → permutes d (take d l) ≡ permutes d l
@@ -100,66 +53,74 @@ permutes-take d l = each-same d (entryFits d (take d l)) (entryFits d l) (λ i h
     (ap (λ (t : Bool). leb 1 (axis (getD l i 0)) && leb (axis (getD l i 0)) d && t)
       (each-same i (λ j. not (eqb (axis (getD (take d l) j 0)) (axis (getD l i 0)))) (λ j. not (eqb (axis (getD l j 0)) (axis (getD l i 0)))) (λ j k. rw (getD-take d l j 0 (omega arith)) refl))))
 
--- bytes or-ed together
-unfoldable pub joined : ℕ → List ℕ → ℕ
-joined any [] = any
-joined any (o ∷ os) = joined (bitOr any o) os
+-- the place of a read that takes no branch: i, or the first
+abbrev pub placeIn : ℕ → ℕ → ℕ
+placeIn i n = cond (ltb i n) i 0
 
-pub joined-next : (any : ℕ) (l : List ℕ) (i : ℕ) → i < length l → joined any (drop i l) ≡ joined (bitOr any (getD l i 0)) (drop (i + 1) l)
-unfolding joined
-joined-next any l i h = rw (add-one i, drop-cons l i 0 h) refl
+pub place-under : (i n : ℕ) → i < n → placeIn i n ≡ i
+place-under i n h = rw (lt-ltb i n h) refl
 
-pub joined-end : (any : ℕ) (l : List ℕ) (i : ℕ) → length l ≤ i → joined any (drop i l) ≡ any
-unfolding joined
-joined-end any l i h = rw (drop-of-length-le l h) refl
+pub place-past : (i n : ℕ) → n ≤ i → placeIn i n ≡ 0
+place-past i n h = rw (le-ltb i n h) refl
 
--- a read past the end joins nothing
-pub joined-on : (any : ℕ) (l : List ℕ) (i : ℕ) → joined any (drop i l) ≡ joined (bitOr any (getD l i 0)) (drop (i + 1) l)
-joined-on any l i = go (decLt i (length l))
+pub place-within : (i n : ℕ) → 0 < n → placeIn i n < n
+place-within i n p = go (decLt i n)
   where
-    none : bitOr any 0 ≡ any
-    none = omega (arith, or-add-and any 0, and-le-r any 0)
-    go : Dec (i < length l) → joined any (drop i l) ≡ joined (bitOr any (getD l i 0)) (drop (i + 1) l)
-    go (yes h) = joined-next any l i h
-    go (no h) = joined-end any l i (omega arith) ∙ sym (joined-end (bitOr any (getD l i 0)) l (i + 1) (omega arith) ∙ ap (bitOr any) (List·getD-eq-default l 0 (omega arith)) ∙ none)
+    go : Dec (i < n) → placeIn i n < n
+    go (yes h) = subst (λ (m : ℕ). m < n) (sym (place-under i n h)) h
+    go (no h) = subst (λ (m : ℕ). m < n) (sym (place-past i n (omega arith))) p
 
-pub joined-fits : (d any : ℕ) (os : List ℕ) → any < 2 ^ d → ((i : ℕ) → i < length os → getD os i 0 < 2 ^ d) → joined any os < 2 ^ d
-unfolding joined
-joined-fits d any [] h f = h
-joined-fits d any (o ∷ os) h f = joined-fits d (bitOr any o) os (or-lt d any o h (f 0 (omega arith))) (λ i l. f (suc i) (omega arith))
-
-or-over-l : (a b : ℕ) → a ≤ bitOr a b
-or-over-l a b = omega (arith, or-add-and a b, and-le-r a b)
-
-or-over-r : (a b : ℕ) → b ≤ bitOr a b
-or-over-r a b = omega (arith, or-add-and a b, and-le-l a b)
-
-joined-over : (any : ℕ) (os : List ℕ) → any ≤ joined any os
-unfolding joined
-joined-over any [] = omega arith
-joined-over any (o ∷ os) = omega (arith, joined-over (bitOr any o) os, or-over-l any o)
-
-joined-each : (any : ℕ) (os : List ℕ) (i : ℕ) → i < length os → getD os i 0 ≤ joined any os
-unfolding joined
-joined-each any [] i l = absurd (omega arith)
-joined-each any (o ∷ os) zero l = omega (arith, joined-over (bitOr any o) os, or-over-r any o)
-joined-each any (o ∷ os) (suc i) l = joined-each (bitOr any o) os i (omega arith)
-
-pub fit-joined : (d : ℕ) (os : List ℕ) → ltb (joined 0 os) (2 ^ d) ≡ orthantsFit d os
-unfolding orthantsFit
-fit-joined d os = go (decLt (joined 0 os) (2 ^ d))
+pub place-no-later : (i n : ℕ) → placeIn i n ≤ n
+place-no-later i n = go (decLt i n)
   where
-    pos : 0 < 2 ^ d
-    pos = pow-pos d
-    test : ℕ → Bool
-    test i = ltb (getD os i 0) (2 ^ d)
-    go : Dec (joined 0 os < 2 ^ d) → ltb (joined 0 os) (2 ^ d) ≡ each (length os) test
-    go (yes h) = rw (lt-ltb (joined 0 os) (2 ^ d) h) (sym (at-each (length os) test (λ i l. lt-ltb (getD os i 0) (2 ^ d) (omega (arith, joined-each 0 os i l)))))
-    go (no h) = rw (le-ltb (joined 0 os) (2 ^ d) (omega arith)) (sym (none (each (length os) test) refl))
-      where
-        none : (t : Bool) → each (length os) test ≡ t → t ≡ false
-        none false q = refl
-        none true q = absurd (h (joined-fits d 0 os pos (λ i l. ltb-true (getD os i 0) (2 ^ d) (each-at (length os) test q i l))))
+    go : Dec (i < n) → placeIn i n ≤ n
+    go (yes h) = omega (arith, place-under i n h)
+    go (no h) = omega (arith, place-past i n (omega arith))
+
+-- the orthants or-ed: those before place i of a walk that begins again past the last
+pub record Fitting (d n : ℕ) (os : List ℕ) (i any : ℕ) : Type 0 where
+  pub every : any < 2 ^ d → (j : ℕ) → j < i → j < n → getD os j 0 < 2 ^ d
+  pub fits : ((j : ℕ) → j < n → getD os j 0 < 2 ^ d) → any < 2 ^ d
+
+pub fitting-none : (d n : ℕ) (os : List ℕ) → Fitting d n os 0 0
+fitting-none d n os = record { every = λ h j l m. absurd (omega arith); fits = λ f. pow-pos d }
+
+module _ {d n : ℕ} {os : List ℕ} {i any : ℕ} (t : Fitting d n os i any) where
+  pub fitting-next : 0 < n → (o : ℕ) → o ≡ getD os (placeIn i n) 0 → Fitting d n os (i + 1) (bitOr any o)
+  fitting-next p o e = record
+    { every = λ h j l m. go h j l m (decLt j i)
+    ; fits = λ f. or-lt d any o (t .fits f) (rw e (f (placeIn i n) (place-within i n p))) }
+    where
+      over-l : any ≤ bitOr any o
+      over-l = omega (arith, or-add-and any o, and-le-r any o)
+      over-r : o ≤ bitOr any o
+      over-r = omega (arith, or-add-and any o, and-le-l any o)
+      go : bitOr any o < 2 ^ d → (j : ℕ) → j < i + 1 → j < n → Dec (j < i) → getD os j 0 < 2 ^ d
+      go h j l m (yes q) = t .every (omega (arith, over-l)) j q m
+      go h j l m (no q) = omega (arith, over-r, h, e, ap (λ (x : ℕ). getD os x 0) here)
+        where
+          here : placeIn i n ≡ j
+          here = place-under i n (omega arith) ∙ omega arith
+
+  pub fitting-all : n ≡ length os → n ≤ i → eqb (any / 2 ^ d) 0 ≡ orthantsFit d os
+  unfolding orthantsFit
+  fitting-all e h = go (decLt any (2 ^ d))
+    where
+      test : ℕ → Bool
+      test j = ltb (getD os j 0) (2 ^ d)
+      go : Dec (any < 2 ^ d) → eqb (any / 2 ^ d) 0 ≡ each (length os) test
+      go (yes l) = eq-eqb (any / 2 ^ d) 0 (div-eq-of-lt l) ∙ sym (at-each (length os) test (λ j m. lt-ltb (getD os j 0) (2 ^ d) (t .every l j (omega arith) (omega arith))))
+      go (no l) = ne-eqb (any / 2 ^ d) 0 (λ q. l (low q)) ∙ sym (none (each (length os) test) refl)
+        where
+          low : any / 2 ^ d ≡ 0 → any < 2 ^ d
+          low q = omega (arith, div-add-mod' any (2 ^ d), ap (λ (u : ℕ). u * 2 ^ d) q, mod-lt any (pow-pos d))
+          none : (t' : Bool) → each (length os) test ≡ t' → t' ≡ false
+          none false q = refl
+          none true q = absurd (l (t .fits (λ j m. ltb-true (getD os j 0) (2 ^ d) (each-at (length os) test q j (omega arith)))))
+
+pub fitting-empty : (d : ℕ) (os : List ℕ) → length os ≡ 0 → true ≡ orthantsFit d os
+unfolding orthantsFit each
+fitting-empty d os e = rw e refl
 
 -- the byte of the box's own signs
 abbrev pub ownByte : List ℕ → ℕ
@@ -211,23 +172,6 @@ module _ {es : List ℕ} {own i : ℕ} (s : SignsSoFar es own i) where
   pub signs-all : {k : ℕ} → i ≤ k → k ≤ i → true ≡ signsBy k es own
   unfolding signsBy
   signs-all {k} l u = sym (subst (λ (n : ℕ). each n (signTest es own) ≡ true) (omega arith) (s .so-far))
-
--- the place of a read that takes no branch: i, or the first
-abbrev pub placeIn : ℕ → ℕ → ℕ
-placeIn i n = cond (ltb i n) i 0
-
-pub place-under : (i n : ℕ) → i < n → placeIn i n ≡ i
-place-under i n h = rw (lt-ltb i n h) refl
-
-pub place-past : (i n : ℕ) → n ≤ i → placeIn i n ≡ 0
-place-past i n h = rw (le-ltb i n h) refl
-
-pub place-within : (i n : ℕ) → 0 < n → placeIn i n < n
-place-within i n p = go (decLt i n)
-  where
-    go : Dec (i < n) → placeIn i n < n
-    go (yes h) = subst (λ (m : ℕ). m < n) (sym (place-under i n h)) h
-    go (no h) = subst (λ (m : ℕ). m < n) (sym (place-past i n (omega arith))) p
 
 -- the walk over a fixed number of places: of those before i, the ones under k carry the own sign
 pub record SignsUpTo (es : List ℕ) (own k i : ℕ) : Type 0 where

@@ -4,12 +4,18 @@ ghost use Prim.Native.Nat.{suc, _+_, _≤_, _<_};
 ghost use lib.ListN.{length, getD, take, drop};
 ghost use lib.Seq.{paste};
 ghost use mathlib.Core.List.{_++_};
+ghost use Rattle.dimension.specs.Sizes.{halvings};
 ghost use Rattle.bisection.specs.Codes.{axis, turned, orthant};
 ghost use Rattle.bisection.specs.Theorems.Entries.{Signed, unturned};
 ghost use Rattle.codes.specs.Buffers.{atPlace};
 ghost use Rattle.codes.specs.Copying.{CopiesFour};
 
+use crate::check;
 use crate::entries;
+use dimension::Dim;
+
+// Where the last four bytes of the longest code begin.
+const LAST_FOUR: usize = 2 + Dim::MOST_AXES + Dim::HALVINGS - 4;
 
 // Copies n bytes from `from` in src to `to` in dst.
 pub fn copy(src: &[u8], from: usize, n: usize, dst: &mut [u8], to: usize)
@@ -38,15 +44,16 @@ fn copy_four(src: &[u8], at: usize, dst: &mut [u8])
     dst[at + 3] = d;
 }
 
-// Copies the first n bytes of a code, four at a time: every code has four. The last four may have been copied in part.
+// Copies the first n bytes of a code, four at a time: every code has four. Where there are fewer than the longest code has, it
+// copies the first four again; the last four may have been copied in part.
 pub fn copy_front(code: &[u8], n: usize, out: &mut [u8])
-    requires { ⌜ (4 ≤ n) × (n ≤ length (now code)) × (n ≤ length (now out)) ⌝ }
+    requires { ⌜ (4 ≤ n) × (n ≤ 6 + halvings) × (n ≤ length (now code)) × (n ≤ length (now out)) ⌝ }
     ensures { λ r. ⌜ now (out .exit) ≡ take n (now (code .entry)) ++ drop n (now (out .entry)) ⌝ }
 {
     let last = n - 4;
     let mut i: usize = 0;
-    while i < last {
-        copy_four(code, i, out);
+    while i < LAST_FOUR {
+        copy_four(code, check::place_in(i, last), out);
         i += 4;
     }
     copy_four(code, last, out);
@@ -82,15 +89,17 @@ pub fn unturn(buf: &mut [u8], at: usize, n: usize)
     }
 }
 
-// The orthant byte of d entries: high on the axes that have a minus.
+// The orthant byte of d entries: high on the axes that have a minus. Where there are fewer than the most axes it reads the first
+// one again.
 pub fn orthant_of(buf: &[u8], at: usize, d: usize) -> u8
-    requires { ⌜ (d ≤ 8) × (at + d ≤ length (now buf)) × Signed d (take d (drop at (now buf))) ⌝ }
+    requires { ⌜ (1 ≤ d) × (d ≤ 4) × (at + d ≤ length (now buf)) × Signed d (take d (drop at (now buf))) ⌝ }
     ensures { λ r. ⌜ r ≡ orthant (take d (drop at (now (buf .entry)))) ⌝ }
 {
     let mut mask: u8 = 0;
     let mut i: usize = 0;
-    while i < d {
-        let e = buf[at + i];
+    while i < Dim::MOST_AXES {
+        let j = check::place_in(i, d);
+        let e = buf[at + j];
         if entries::is_minus(e) {
             mask = entries::raise(mask, entries::axis_of(e));
         }

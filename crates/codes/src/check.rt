@@ -1,44 +1,21 @@
 // The tests of a code's body: its permutation, its orthant bytes, its signs. Each is a walk over lent bytes.
 ghost use mathlib.Core.Path.{_≡_};
 ghost use Prim.Native.Nat.{_+_, _-_, _≤_, _<_};
-ghost use lib.ListN.{length, getD, drop};
+ghost use lib.ListN.{length, drop};
 ghost use mathlib.Core.Bool.{cond};
 ghost use lib.Dec.{ltb};
 ghost use Rattle.dimension.specs.Sizes.{halvings};
 ghost use Rattle.bisection.specs.Codes.{axis, minus, high};
-ghost use Rattle.bisection.specs.Refusals.{permutes, sameSign};
+ghost use Rattle.bisection.specs.Refusals.{permutes, orthantsFit, sameSign};
 ghost use Rattle.codes.specs.Outcomes.{isRoot, isPath};
-ghost use Rattle.codes.specs.Walks.{joined, ownByte, signsBy, AxesWithin};
+ghost use Rattle.codes.specs.Walks.{ownByte, signsBy, AxesWithin};
 
 
 use crate::entries;
 use dimension::Dim;
 
-// The d bytes from `at` on have the axes 1..d, none repeated.
-pub fn permuted(s: &[u8], at: usize, d: usize) -> bool
-    requires { ⌜ (d ≤ 8) × (at + d ≤ length (now s)) ⌝ }
-    ensures { λ r. ⌜ r ≡ permutes d (drop at (now (s .entry))) ⌝ }
-{
-    let mut seen: u8 = 0;
-    let mut i: usize = 0;
-    while i < d {
-        let a = entries::axis_of(s[at + i]);
-        if a < 1 {
-            return false;
-        }
-        if d < entries::size(a) {
-            return false;
-        }
-        if entries::is_high(seen, a) {
-            return false;
-        }
-        seen = entries::raise(seen, a);
-        i += 1;
-    }
-    true
-}
-
-// The place, or the first one where there are no more than n: a read that takes no branch.
+// The place, or the first one where there are no more than n. A walk that reads a place again instead of ending has one length
+// for every code: a loop whose end is not foreseen costs more than the steps it saves.
 pub fn place_in(i: usize, n: usize) -> usize
     ensures { λ r. ⌜ r ≡ cond (ltb i n) i 0 ⌝ }
 {
@@ -48,31 +25,39 @@ pub fn place_in(i: usize, n: usize) -> usize
     0
 }
 
-// The byte at a place, 0 past the end.
-pub fn byte_at(s: &[u8], i: usize) -> u8
-    requires { ⌜ 0 < length (now s) ⌝ }
-    ensures { λ r. ⌜ r ≡ getD (now (s .entry)) i 0 ⌝ }
+// The d bytes from `at` on have the axes 1..d, none repeated: d entries whose marks are those of 1..d have each axis just once.
+pub fn permuted(s: &[u8], at: usize, d: usize) -> bool
+    requires { ⌜ (1 ≤ d) × (d ≤ 4) × (at + d ≤ length (now s)) ⌝ }
+    ensures { λ r. ⌜ r ≡ permutes d (drop at (now (s .entry))) ⌝ }
 {
-    let x = s[place_in(i, s.len())];
-    if i < s.len() {
-        return x;
+    let mut seen: u8 = 0;
+    let mut i: usize = 0;
+    while i < Dim::MOST_AXES {
+        let j = place_in(i, d);
+        seen = seen | entries::mark_of(s[at + j]);
+        i += 1;
     }
-    0
+    seen == (1 << d) - 1
 }
 
-// The bytes from `at` on, or-ed: a bit is set that is set in any of them. There are no more of them than halvings, and the
-// walk has that length for every code: a loop whose end is not foreseen costs more than its steps.
-pub fn any_bit(s: &[u8], at: usize) -> u8
-    requires { ⌜ (0 < length (now s)) × (at ≤ 8) × (length (now s) ≤ at + halvings) ⌝ }
-    ensures { λ r. ⌜ r ≡ joined 0 (drop at (now (s .entry))) ⌝ }
+// No orthant byte of a code of dimension d has a bit at d or above: the bytes or-ed have none. There are no more than halvings.
+pub fn orthants_fit(code: &[u8], d: usize) -> bool
+    requires { ⌜ (d < 8) × (2 + d ≤ length (now code)) × (length (now code) ≤ 2 + d + halvings) ⌝ }
+    ensures { λ r. ⌜ r ≡ orthantsFit d (drop (2 + d) (now (code .entry))) ⌝ }
 {
+    let first = 2 + d;
+    let boxes = code.len() - first;
+    if boxes == 0 {
+        return true;
+    }
     let mut any: u8 = 0;
     let mut i: usize = 0;
     while i < Dim::HALVINGS {
-        any = any | byte_at(s, at + i);
+        let j = place_in(i, boxes);
+        any = any | code[first + j];
         i += 1;
     }
-    any
+    any >> d == 0
 }
 
 // The last orthant byte of a code of dimension d, 0 where it has none: high where the box's own sign is minus.
@@ -100,7 +85,7 @@ pub fn same_sign(e: u8, own: u8) -> bool
 }
 
 // The first k entries carry the own sign that the orthant byte gives: the sign test, entry by entry. Where there are fewer
-// than the most axes it tests the first one again, so that the walk has one length.
+// than the most axes it tests the first one again.
 pub fn signs_by(code: &[u8], k: usize, own: u8) -> bool
     requires { ⌜ (1 ≤ k) × (k ≤ 4) × (2 + k ≤ length (now code)) × AxesWithin k (now code) ⌝ }
     ensures { λ r. ⌜ r ≡ signsBy k (drop 2 (now (code .entry))) own ⌝ }
@@ -118,7 +103,7 @@ pub fn signs_by(code: &[u8], k: usize, own: u8) -> bool
 
 // The bytes are those of a root: a permutation of the axes, and no byte with a sign.
 pub fn is_root(root: &[u8]) -> bool
-    requires { ⌜ length (now root) ≤ 8 ⌝ }
+    requires { ⌜ (1 ≤ length (now root)) × (length (now root) ≤ 4) ⌝ }
     ensures { λ r. ⌜ r ≡ isRoot (now (root .entry)) ⌝ }
 {
     if !permuted(root, 0, root.len()) {

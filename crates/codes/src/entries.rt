@@ -6,7 +6,7 @@ ghost use mir.Syntax.{w8};
 ghost use mir.Val.{SFits};
 ghost use Rattle.bisection.specs.Codes.{axis, minus, negated, high};
 ghost use Rattle.codes.specs.Signs.{signedOf, byteOf};
-ghost use Rattle.codes.specs.Masks.{raised};
+ghost use Rattle.codes.specs.Masks.{raised, markOf};
 
 pub fn size(x: u8) -> usize
     ensures { λ r. ⌜ r ≡ x ⌝ }
@@ -77,4 +77,18 @@ pub fn raise(orthant: u8, axis: u8) -> u8
     ensures { λ r. ⌜ r ≡ raised orthant axis ⌝ }
 {
     orthant | (1 << (axis - 1))
+}
+
+// The byte that is high on the entry's axis alone; 0 where a byte has no bit for it.
+pub fn mark_of(e: u8) -> u8
+    ensures { λ r. ⌜ r ≡ markOf (axis e) ⌝ }
+{
+    let a = axis_of(e);
+    if a < 1 {
+        return 0;
+    }
+    if 8 < a {
+        return 0;
+    }
+    1 << (a - 1)
 }

@@ -88,7 +88,7 @@ pub fn code_body(code: &[u8]) -> u8
     if !check::permuted(code, 2, d) {
         return REFUSED_PERMUTATION;
     }
-    if check::any_bit(code, 2 + d) >> d != 0 {
+    if !check::orthants_fit(code, d) {
         return REFUSED_ORTHANT;
     }
     let k = dim.split_place(entries::size(code[1]));

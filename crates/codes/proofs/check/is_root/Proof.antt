@@ -17,7 +17,7 @@ abbrev μ-loop : tie.MeasureT-loop
 μ-loop root i₀ i = length root - i
 
 permuted-requires : tie.Need-permuted-requires Inv-loop μ-loop
-permuted-requires c κs = (c .before .pre, omega arith)
+permuted-requires c κs = (c .before .pre .0, c .before .pre .1, omega arith)
 
 returns : tie.Need-returns Inv-loop μ-loop
 returns c = root-permutes _ (sym (c .before .permuted .ensures) ∙ not-true _ (c .if1 .taken))

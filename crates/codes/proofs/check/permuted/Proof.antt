@@ -1,61 +1,66 @@
--- `permuted` meets its contract. The loop keeps: the entries before i pass, and the mask is high on just their axes.
-use mathlib.Core.Path.{_≡_, refl, sym, ap, _∙_}
+-- `permuted` meets its contract. The loop keeps: the entries before i are marked, and what is marked stands among the d.
+use mathlib.Core.Path.{_≡_, sym, ap, _∙_}
 use Prim.Native.Nat.{ℕ, _+_, _-_, _≤_, _<_}
-use lib.ListN.{length, getD, drop}
+use lib.ListN.{length, getD, take, drop}
 use native.Mathlib.Omega.{arith}
-use Rattle.bisection.specs.Codes.{axis}
-use Rattle.codes.specs.Walks.{Seen, seen-none, seen-next, seen-all, axis-none, axis-over, axis-twice, at-place}
+use lib.Bits.{bitOr}
+use lib.Pow.{pow-pos}
+use Rattle.codes.specs.Masks.{markOf, shifted-bit}
+use Rattle.codes.specs.Walks.{placeIn, place-within}
+use Rattle.codes.specs.Buffers.{entry-at}
+use Rattle.codes.specs.Marks.{Marked, marked-none, marked-next, permuted-at}
 use borrow.Author.Needs.{needs}
 use Rattle.codes.proofs.check.permuted.Statement.{statement}
 use Rattle.codes.proofs.check.permuted.Tie as tie
 
 abbrev Inv-loop : tie.InvT-loop
-Inv-loop s at d seen₀ i₀ seen i = (i ≤ d) × Seen d (drop at s) i seen
+Inv-loop s at d seen₀ i₀ seen i = Marked d (take d (drop at s)) i seen
 
 abbrev μ-loop : tie.MeasureT-loop
-μ-loop s at d seen₀ i₀ seen i = d - i
+μ-loop s at d seen₀ i₀ seen i = 4 - i
 
 loop-holds : tie.Need-loop-holds Inv-loop μ-loop
-loop-holds c = (omega arith, seen-none _ _)
+loop-holds c = marked-none _ _
 
-add-axis-of : tie.Need-add-axis-of Inv-loop μ-loop
-add-axis-of c = search needs
+place-in-requires : tie.Need-place-in-requires Inv-loop μ-loop
+place-in-requires c κs = search needs
 
-shared-slice-read-axis-of : tie.Need-shared-slice-read-axis-of Inv-loop μ-loop
-shared-slice-read-axis-of c = search needs
+add-mark-of : tie.Need-add-mark-of Inv-loop μ-loop
+add-mark-of c = omega (arith, c .place-in .ensures, place-within (c .before .before .loop .i) (c .before .before .before .before .args .d) (c .before .before .before .before .pre .0), c .before .before .before .before .pre .2)
 
-axis-of-requires : tie.Need-axis-of-requires Inv-loop μ-loop
-axis-of-requires c κs = search needs
+shared-slice-read-mark-of : tie.Need-shared-slice-read-mark-of Inv-loop μ-loop
+shared-slice-read-mark-of c = omega (arith, c .before .place-in .ensures, place-within (c .before .before .before .loop .i) (c .before .before .before .before .before .args .d) (c .before .before .before .before .before .pre .0), c .before .before .before .before .before .pre .2)
 
-returns : tie.Need-returns Inv-loop μ-loop
-returns c = axis-none (c .before .before .before .before .loop .inv .1) _ (c .before .axis-of .ensures ∙ ap axis (at-place (c .before .before .before .before .before .before .args .s .now) (c .before .before .before .before .before .before .args .at) (c .before .before .before .before .loop .i))) (c .before .before .before .loop-test .taken) (c .if1 .taken)
-
-size-requires : tie.Need-size-requires Inv-loop μ-loop
-size-requires c κs = search needs
-
-returns-2 : tie.Need-returns-2 Inv-loop μ-loop
-returns-2 c = axis-over (c .before .before .before .before .before .before .loop .inv .1) _ (c .before .before .before .axis-of .ensures ∙ ap axis (at-place (c .before .before .before .before .before .before .before .before .args .s .now) (c .before .before .before .before .before .before .before .before .args .at) (c .before .before .before .before .before .before .loop .i))) (c .before .before .before .before .before .loop-test .taken) (omega (arith, c .if2 .taken, c .before .size .ensures))
-
-is-high-requires : tie.Need-is-high-requires Inv-loop μ-loop
-is-high-requires c κs = (c .before .before .if1 .left, omega (arith, c .if2 .left, c .before .size .ensures))
-
-returns-3 : tie.Need-returns-3 Inv-loop μ-loop
-returns-3 c = axis-twice (c .before .before .before .before .before .before .before .before .loop .inv .1) _ (c .before .before .before .before .before .axis-of .ensures ∙ ap axis (at-place (c .before .before .before .before .before .before .before .before .before .before .args .s .now) (c .before .before .before .before .before .before .before .before .before .before .args .at) (c .before .before .before .before .before .before .before .before .loop .i))) (c .before .before .before .before .before .before .before .loop-test .taken) (c .before .before .before .before .if1 .left) (sym (c .before .is-high .ensures) ∙ c .if3 .taken)
-
-raise-requires : tie.Need-raise-requires Inv-loop μ-loop
-raise-requires c κs = (c .before .before .before .before .if1 .left, omega (arith, c .before .before .if2 .left, c .before .before .before .size .ensures))
+mark-of-requires : tie.Need-mark-of-requires Inv-loop μ-loop
+mark-of-requires c κs = search needs
 
 add-i : tie.Need-add-i Inv-loop μ-loop
 add-i c = search needs
 
 loop-less : tie.Need-loop-less Inv-loop μ-loop
-loop-less c = search needs
+loop-less c = omega (arith, c .before .before .before .loop-test .taken)
 
 loop-again : tie.Need-loop-again Inv-loop μ-loop
-loop-again c = (omega arith, rw (c .raise .ensures) (seen-next (c .before .before .before .before .before .before .before .before .before .loop .inv .1) _ (c .before .before .before .before .before .before .axis-of .ensures ∙ ap axis (at-place (c .before .before .before .before .before .before .before .before .before .before .before .args .s .now) (c .before .before .before .before .before .before .before .before .before .before .before .args .at) (c .before .before .before .before .before .before .before .before .before .loop .i))) (c .before .before .before .before .before .if1 .left) (omega (arith, c .before .before .before .if2 .left, c .before .before .before .before .size .ensures)) (sym (c .before .before .is-high .ensures) ∙ c .before .if3 .left)))
+loop-again c =
+    let s = c .before .before .before .before .before .before .args .s .now in
+    let at = c .before .before .before .before .before .before .args .at in
+    let d = c .before .before .before .before .before .before .args .d in
+    let j = c .before .before .place-in .result in
+    let l : j < d = omega (arith, c .before .before .place-in .ensures, place-within (c .before .before .before .before .loop .i) d (c .before .before .before .before .before .before .pre .0)) in
+    rw (c .mark-of .ensures) (marked-next (c .before .before .before .before .loop .inv) (c .before .before .before .before .before .before .pre .0) _
+        (entry-at s at d j l ∙ ap (λ (x : ℕ). getD (take d (drop at s)) x 0) (c .before .before .place-in .ensures)))
 
-returns-4 : tie.Need-returns-4 Inv-loop μ-loop
-returns-4 c = seen-all (c .before .loop .inv .1) (c .before .loop .inv .0) (omega arith)
+cast-result : tie.Need-cast-result Inv-loop μ-loop
+cast-result c = omega (arith, c .before .before .before .pre .1)
+
+shl-result : tie.Need-shl-result Inv-loop μ-loop
+shl-result c = omega (arith, c .before .before .before .pre .1)
+
+sub-result : tie.Need-sub-result Inv-loop μ-loop
+sub-result c = rw (shifted-bit (c .before .before .before .args .d) (omega (arith, c .before .before .before .pre .1))) (pow-pos (c .before .before .before .args .d))
+
+returns : tie.Need-returns Inv-loop μ-loop
+returns c = permuted-at (c .before .before .before .args .s .now) (c .before .before .before .args .at) (c .before .before .before .args .d) (c .before .loop .i) (c .before .loop .seen) (c .before .before .before .pre .2) (c .before .before .before .pre .1) (omega (arith, c .loop-test .left, c .before .before .before .pre .1)) (c .before .loop .inv)
 
 pub permuted-spec : {M : Type 1} → statement M
 permuted-spec =
@@ -64,16 +69,14 @@ permuted-spec =
     Inv-loop
     μ-loop
     loop-holds
-    add-axis-of
-    shared-slice-read-axis-of
-    axis-of-requires
-    returns
-    size-requires
-    returns-2
-    is-high-requires
-    returns-3
-    raise-requires
+    place-in-requires
+    add-mark-of
+    shared-slice-read-mark-of
+    mark-of-requires
     add-i
     loop-less
     loop-again
-    returns-4)
+    cast-result
+    shl-result
+    sub-result
+    returns)

@@ -17,7 +17,7 @@ axes-requires : tie.Need-axes-requires
 axes-requires c κs = search needs
 
 orthant-of-requires : tie.Need-orthant-of-requires
-orthant-of-requires c κs = rw (c .before .axes .ensures) (omega (arith, (axes-range (c .before .before .before .before .args .dim)) .few), omega (arith, code-room (axesOf (c .before .before .before .before .args .dim)) (c .before .before .before .before .args .depth) (c .before .before .before .before .args .buf .now) (c .before .before .before .before .pre .0)), c .before .before .before .before .pre .1)
+orthant-of-requires c κs = rw (c .before .axes .ensures) (omega (arith, (axes-range (c .before .before .before .before .args .dim)) .two), axes-range (c .before .before .before .before .args .dim) .few, omega (arith, code-room (axesOf (c .before .before .before .before .args .dim)) (c .before .before .before .before .args .depth) (c .before .before .before .before .args .buf .now) (c .before .before .before .before .pre .0)), c .before .before .before .before .pre .1)
 
 add-at : tie.Need-add-at
 add-at c = omega (arith, c .before .before .axes .ensures, (axes-range (c .before .before .before .before .before .args .dim)) .few)

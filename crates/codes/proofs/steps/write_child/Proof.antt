@@ -3,13 +3,13 @@ use mathlib.Core.Path.{_≡_, refl, sym, ap, _∙_, subst}
 use Prim.Native.Nat.{ℕ, suc, _+_, _-_, _≤_, _<_}
 use lib.ListN.{length, getD, take, drop, length-set}
 use native.Mathlib.Omega.{arith}
-use Rattle.codes.specs.Relatives.{child-fits, child-four, child-two, child-depth, child-byte, child-copied, child-ready, child-written}
+use Rattle.codes.specs.Relatives.{child-fits, child-four, child-few, child-two, child-depth, child-byte, child-copied, child-ready, child-written}
 use borrow.Author.Needs.{needs}
 use Rattle.codes.proofs.steps.write_child.Statement.{statement}
 use Rattle.codes.proofs.steps.write_child.Tie as tie
 
 copy-front-requires : tie.Need-copy-front-requires
-copy-front-requires c κs = (child-four (c .before .before .before .pre), omega arith, child-fits (c .before .before .before .pre))
+copy-front-requires c κs = (child-four (c .before .before .before .pre), child-few (c .before .before .before .pre), omega arith, child-fits (c .before .before .before .pre))
 
 shared-slice-read-out : tie.Need-shared-slice-read-out
 shared-slice-read-out c = omega (arith, child-two (c .before .before .before .before .before .before .before .pre))

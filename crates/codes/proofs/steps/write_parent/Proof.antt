@@ -6,7 +6,7 @@ use lib.ListN.{length, getD, take, drop, length-set}
 use native.Mathlib.Omega.{arith}
 use Rattle.dimension.specs.Sizes.{codeLength}
 use Rattle.bisection.specs.Codes.{depthOf}
-use Rattle.codes.specs.Parents.{parent-front, parent-four, parent-two, parent-split, parent-byte, parent-size, parent-ready, parent-written}
+use Rattle.codes.specs.Parents.{parent-front, parent-four, parent-few, parent-two, parent-split, parent-byte, parent-size, parent-ready, parent-written}
 use borrow.Author.Needs.{needs}
 use Rattle.codes.proofs.steps.write_parent.Statement.{statement}
 use Rattle.codes.proofs.steps.write_parent.Tie as tie
@@ -24,7 +24,7 @@ code-length-requires : tie.Need-code-length-requires
 code-length-requires c κs = search needs
 
 copy-front-requires : tie.Need-copy-front-requires
-copy-front-requires c κs = (omega (arith, c .before .code-length .ensures, parent-four (c .before .before .before .before .before .before .pre)), omega (arith, c .before .code-length .ensures, parent-front (c .before .before .before .before .before .before .pre)), omega (arith, c .before .code-length .ensures, c .before .before .before .before .before .before .pre .room))
+copy-front-requires c κs = (omega (arith, c .before .code-length .ensures, parent-four (c .before .before .before .before .before .before .pre)), omega (arith, c .before .code-length .ensures, parent-few (c .before .before .before .before .before .before .pre)), omega (arith, c .before .code-length .ensures, parent-front (c .before .before .before .before .before .before .pre)), omega (arith, c .before .code-length .ensures, c .before .before .before .before .before .before .pre .room))
 
 shared-slice-read-out : tie.Need-shared-slice-read-out
 shared-slice-read-out c = omega (arith, parent-two (c .before .before .before .before .before .before .before .before .before .before .pre))
