@@ -246,17 +246,16 @@ child-length code b e = sym (simp length-append (omega (arith, p .signed .size, 
     p : Passes (dimensionOf code) (suc (depthOf code)) (step (dimensionOf code) (depthOf code) b (partsOf code))
     p = step-passes (dimensionOf code) (depthOf code) (omega (arith, k .range .two)) (omega (arith, k .range .few)) (partsOf code) (k .good .passes) b
 
--- the own byte of the box at a depth above
-pub own-no-box : (d D : ℕ) (code : List ℕ) → boxDepth d D ≡ 0 → 0 ≡ ownByte (take (boxDepth d D) (drop (2 + d) code))
-own-no-box d D code e = rw e refl
+-- the own byte by the count of boxes
+pub own-no-box : (d boxes : ℕ) (code : List ℕ) → boxes ≡ 0 → 0 ≡ ownByte (take boxes (drop (2 + d) code))
+own-no-box d boxes code e = rw e refl
 
-pub own-last-box : (d D : ℕ) (code : List ℕ) → codeLength d D ≤ length code → (boxDepth d D ≡ 0 → ⊥) → (last : ℕ) → last ≡ 1 + d + boxDepth d D → getD code last 0 ≡ ownByte (take (boxDepth d D) (drop (2 + d) code))
-unfolding codeLength
-own-last-box d D code h n last e = sym (rw counted (getD-take (boxDepth d D) (drop (2 + d) code) (boxDepth d D - 1) 0 (omega arith) ∙ getD-drop (2 + d) code (boxDepth d D - 1) 0) ∙ ap (λ (i : ℕ). getD code i 0) there)
+pub own-last-box : (d boxes : ℕ) (code : List ℕ) → 2 + d + boxes ≤ length code → (boxes ≡ 0 → ⊥) → getD code (1 + d + boxes) 0 ≡ ownByte (take boxes (drop (2 + d) code))
+own-last-box d boxes code h n = sym (rw counted (getD-take boxes (drop (2 + d) code) (boxes - 1) 0 (omega arith) ∙ getD-drop (2 + d) code (boxes - 1) 0) ∙ ap (λ (i : ℕ). getD code i 0) there)
   where
-    counted : length (take (boxDepth d D) (drop (2 + d) code)) ≡ boxDepth d D
+    counted : length (take boxes (drop (2 + d) code)) ≡ boxes
     counted = simp (length-take, length-drop) (omega arith)
-    there : 2 + d + (boxDepth d D - 1) ≡ last
+    there : 2 + d + (boxes - 1) ≡ 1 + d + boxes
     there = omega arith
 
 -- sizes as the code computes them

@@ -87,17 +87,23 @@ pub fn unstep(buf: &mut [u8], at: usize, n: usize, own: u8) -> u8
     1
 }
 
-// The byte of the own signs of the box at a depth above a code's, 0 where there is no box yet.
+// The byte of the own signs of the box, the last of the first so many orthants, 0 where there is none.
+pub fn own_of(code: &[u8], axes: usize, boxes: usize) -> u8
+    requires { ⌜ 2 + axes + boxes ≤ length (now code) ⌝ }
+    ensures { λ r. ⌜ r ≡ ownByte (take boxes (drop (2 + axes) (now (code .entry)))) ⌝ }
+{
+    if boxes == 0 {
+        return 0;
+    }
+    code[1 + axes + boxes]
+}
+
+// The same for the box at a depth above a code's.
 pub fn own_at(code: &[u8], dim: Dim, depth: usize) -> u8
     requires { ⌜ codeLength (axesOf dim) depth ≤ length (now code) ⌝ }
     ensures { λ r. ⌜ r ≡ ownByte (take (boxDepth (axesOf dim) depth) (drop (2 + axesOf dim) (now (code .entry)))) ⌝ }
 {
-    let boxes = dim.box_depth(depth);
-    if boxes == 0 {
-        return 0;
-    }
-    let last = 1 + dim.axes() + boxes;
-    code[last]
+    own_of(code, dim.axes(), dim.box_depth(depth))
 }
 
 // Writes the child's code: the code with one more depth, stepped where it stands.
@@ -110,14 +116,17 @@ pub fn write_child(code: &[u8], dim: Dim, depth: usize, which: u8, out: &mut [u8
     step_in(out, dim, depth, dim.split_place(depth), which);
 }
 
-// Writes the parent's code, at the depth given: the front of the code with the last step taken back.
+// Writes the parent's code, at the depth given: the front of the code with the last step taken back. Its boxes are counted once,
+// and give its own signs, its split place k and its length.
 pub fn write_parent(code: &[u8], dim: Dim, depth: usize, out: &mut [u8])
     requires { ⌜ ParentReady (now code) (axesOf dim) depth (now out) ⌝ }
     ensures { λ r. ⌜ now (out .exit) ≡ parentCode (now (code .entry)) ++ drop (codeLength (axesOf dim) depth) (now (out .entry)) ⌝ }
 {
-    let own = own_at(code, dim, depth);
-    let n = dim.split_place(depth) - 1;
-    buffers::copy_front(code, dim.code_length(depth), out);
+    let axes = dim.axes();
+    let boxes = dim.box_depth(depth);
+    let own = own_of(code, axes, boxes);
+    let k = axes - (depth - axes * boxes);
+    buffers::copy_front(code, 2 + axes + boxes, out);
     out[1] = code[1] - 1;
-    unstep(out, 2, n, own);
+    unstep(out, 2, k - 1, own);
 }

@@ -180,19 +180,6 @@ module _ {k d boxes t : ℕ} (d0 : 0 < d) (pos : 0 < t) (e : k ≡ splitPlace d 
   pub above-ready : BoxesReady boxes k d
   above-ready = record { some = a .some }
 
--- the own byte by the count of boxes
-pub own-none : (d boxes : ℕ) (code : List ℕ) → boxes ≡ 0 → 0 ≡ ownByte (take boxes (drop (2 + d) code))
-own-none d boxes code e = rw e refl
-
-pub own-last : (d boxes : ℕ) (code : List ℕ) → 2 + d + boxes ≤ length code → (boxes ≡ 0 → ⊥) → getD code (1 + d + boxes) 0 ≡ ownByte (take boxes (drop (2 + d) code))
-own-last d boxes code h n = sym (rw counted (getD-take boxes (drop (2 + d) code) (boxes - 1) 0 (omega arith) ∙ getD-drop (2 + d) code (boxes - 1) 0) ∙ ap (λ (i : ℕ). getD code i 0) there)
-  where
-    counted : length (take boxes (drop (2 + d) code)) ≡ boxes
-    counted = simp (length-take, length-drop) (omega arith)
-
-    there : 2 + d + (boxes - 1) ≡ 1 + d + boxes
-    there = omega arith
-
 -- the code has a byte for each box of a depth above
 pub boxes-room : (d t : ℕ) (code : List ℕ) → codeLength d t ≤ length code → 2 + d + boxDepth d t ≤ length code
 unfolding codeLength

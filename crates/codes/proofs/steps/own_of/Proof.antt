@@ -4,13 +4,13 @@ use Prim.Native.Nat.{ℕ, suc, _+_, _-_, _*_, _^_, _≤_, _<_}
 use native.Mathlib.Omega.{arith}
 use native.Mathlib.Numerals.{add-one}
 use lib.ListN.{length, getD}
-use Rattle.positions.specs.Walks.{own-none, own-last}
+use Rattle.codes.specs.Relatives.{own-no-box, own-last-box}
 use borrow.Author.Needs.{needs}
-use Rattle.positions.proofs.own_of.Statement.{statement}
-use Rattle.positions.proofs.own_of.Tie as tie
+use Rattle.codes.proofs.steps.own_of.Statement.{statement}
+use Rattle.codes.proofs.steps.own_of.Tie as tie
 
 returns : tie.Need-returns
-returns c = own-none (c .before .args .axes) (c .before .args .boxes) (c .before .args .code .now) (c .if1 .taken)
+returns c = own-no-box (c .before .args .axes) (c .before .args .boxes) (c .before .args .code .now) (c .if1 .taken)
 
 add-result : tie.Need-add-result
 add-result c = search needs
@@ -22,7 +22,7 @@ shared-slice-read-result : tie.Need-shared-slice-read-result
 shared-slice-read-result c = search needs
 
 returns-2 : tie.Need-returns-2
-returns-2 c = own-last (c .before .before .args .axes) (c .before .before .args .boxes) (c .before .before .args .code .now) (c .before .before .pre) (c .before .if1 .left)
+returns-2 c = own-last-box (c .before .before .args .axes) (c .before .before .args .boxes) (c .before .before .args .code .now) (c .before .before .pre) (c .before .if1 .left)
 
 pub own-of-spec : {M : Type 1} → statement M
 own-of-spec =
