@@ -1,22 +1,19 @@
 -- The head of a code and the order of refusals, one law for each way out of the code that decides them.
-use mathlib.Core.Path.{_≡_, refl, sym, ap, _∙_, subst}
+use mathlib.Core.Path.{_≡_, refl, sym, ap, _∙_}
 use mathlib.Core.Bool.{Bool, true, false, cond, _&&_}
-use mathlib.Core.List.{List, []}
+use mathlib.Core.List.{List}
 use mathlib.Core.Logic.{_≢_}
-use Prim.Native.Nat.{ℕ, zero, suc, _+_, _*_, _/_, _%_, _^_, _≤_, _<_}
+use Prim.Native.Nat.{ℕ, zero, suc, _+_, _≤_, _<_}
 use native.Mathlib.Omega.{arith}
-use lib.Dec.{T, leb, ltb, eqb}
-use lib.ListN.{length, getD, take, drop}
-use lib.Pow.{pow-pos}
-use native.Mathlib.Nat.{div-eq-of-lt, div-add-mod', mod-lt}
-use native.Mathlib.Decide.{decLt}
-use borrow.Author.Tests.{lt-leb, le-leb, le-ltb, lt-ltb, eq-eqb, ne-eqb, leb-true}
-use Rattle.dimension.specs.Sizes.{isDimension, halvings, greatestDepth, codeLength, splitPlace, boxDepth}
-use Rattle.dimension.specs.Laws.{Dimension, dimension, split-range, box-in}
+use lib.Dec.{leb, eqb}
+use lib.ListN.{length, getD, drop}
+use borrow.Author.Tests.{lt-leb, le-leb, eq-eqb, ne-eqb, leb-true}
+use Rattle.dimension.specs.Sizes.{isDimension, halvings, greatestDepth, codeLength, splitPlace}
+use Rattle.dimension.specs.Laws.{Dimension, dimension, box-in}
 use Rattle.bisection.specs.Codes.{axis, dimensionOf, depthOf, entriesOf, orthantsOf}
 use Rattle.bisection.specs.Refusals.{done, refusedDimension, refusedDepth, refusedLength, refusedPermutation, refusedOrthant, refusedSign, fresh, permutes, orthantsFit, signsOwn, need, _then_, headRefusal, bodyRefusal, codeRefusal}
 use Rattle.bisection.specs.Theorems.Checked.{then-done, need-done, each-at, both}
-use Rattle.codes.specs.Walks.{entryFits, permutes-take, ownByte, signsBy, signs-by, AxesWithin, at-place}
+use Rattle.entries.specs.Walks.{entryFits, permutes-take, ownByte, signsBy, signs-by, AxesWithin, at-place}
 use Rattle.codes.specs.declared.Head.{Head}
 use Rattle.codes.specs.Outcomes.{HeadIs}
 

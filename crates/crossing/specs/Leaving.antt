@@ -17,8 +17,8 @@ use Rattle.bisection.specs.Theorems.Entries.{axis-negated, minus-negated}
 use Rattle.bisection.specs.Theorems.Table.{farther, nearer, move, moveOf, newAt, newPlace, nextOwn, negatedAt, entriesBy, orthantsBy, blockedBy, blocked, acrossName, runsOut, carried}
 use Rattle.bisection.specs.Theorems.Crossing.Rearranged.{negatedAt-length}
 use Rattle.bisection.specs.Theorems.Neighbour.{isBlocked, tableCode, tablePlace}
-use Rattle.codes.specs.Buffers.{entry-at}
-use Rattle.codes.specs.Relatives.{code-few, Checked, checked}
+use Rattle.entries.specs.Walks.{entry-at}
+use Rattle.entries.specs.Passed.{code-few, Checked, checked}
 use Rattle.crossing.specs.Carrying.{carriedIn}
 
 -- the row: what the table says, told by the entry e against which the box moves and the place whose sign changes

@@ -18,9 +18,9 @@ use Rattle.bisection.specs.Theorems.Table.{swap, left, right, trade, moveOf, ne
 use Rattle.bisection.specs.Theorems.Crossing.Moves.{view}
 use Rattle.bisection.specs.Theorems.Crossing.Sound.{Allowed, allowed}
 use Rattle.bisection.specs.Theorems.Neighbour.{isBlocked, tableCode, tablePlace}
-use Rattle.codes.specs.Buffers.{atPlace}
-use Rattle.codes.specs.Walks.{ownByte}
-use Rattle.codes.specs.Relatives.{code-few, Checked, checked}
+use Rattle.steps.specs.Buffers.{atPlace}
+use Rattle.entries.specs.Walks.{ownByte}
+use Rattle.entries.specs.Passed.{code-few, Checked, checked}
 use Rattle.crossing.specs.Rearranging.{ownNext, Rearranges, within, within-is, Movable}
 use Rattle.crossing.specs.Answers.{entries-append, table-place}
 

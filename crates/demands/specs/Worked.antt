@@ -2,15 +2,14 @@
 use mathlib.Core.Path.{_≡_, refl}
 use mathlib.Core.List.{List, [], _∷_}
 use Rattle.dimension.specs.Sizes.{isDimension, halvings, cubeSide, greatestDepth, level, splitPlace, boxDepth, codeLength}
-use Rattle.bisection.specs.Cells.{midpoint, child, moved, corners, rootCell, cellBelow, cellOf}
+use Rattle.bisection.specs.Cells.{midpoint, child, moved, corners, rootCell, cellBelow, cellOf, pointBytes, cellBytes, cellLength}
 use Rattle.bisection.specs.Codes.{minus, axis, negated, turned, stepped, high, minusOn, orthantTo, orthant, step, nameBelow, nameOf, bytes, codeOf, dimensionOf, depthOf, entriesOf, orthantsOf, partsOf, childCode}
-use Rattle.bisection.specs.Refusals.{done, refusedSign, need, _then_, each, fresh, permutes, orthantsFit, ownMinus, signsOwn, headRefusal, bodyRefusal, codeRefusal}
+use Rattle.bisection.specs.Refusals.{done, refusedSign, need, _then_, each, fresh, permutes, orthantsFit, ownMinus, signsOwn, headRefusal, bodyRefusal, codeRefusal, isRoot, isPath}
 use Rattle.bisection.specs.Theorems.CodePaths.{rootOf, pathOf}
 use Rattle.bisection.specs.Theorems.Paths.{rootTo, pathTo}
 use Rattle.bisection.specs.Theorems.Passing.{parentName, lastStep, unstepped, fewer}
 use Rattle.bisection.specs.Theorems.Entries.{unturned}
 use Rattle.bisection.specs.Theorems.Table.{move, newAt, exchanged, negatedAt, entriesBy, flipped, runsOut, carried, orthantsBy, blockedBy, nextOwn, moveOf, blocked, acrossName, newPlace}
-use Rattle.codes.specs.Outcomes.{isRoot, isPath, pointBytes, cellBytes, cellLength}
 use Rattle.demands.specs.Rows.{Row, path-to-code, vertices, code-check, child-of, cross, walled, Every}
 use Rattle.demands.specs.Shown.{Shown, PathShown, CellShown, ChildShown, CrossShown, WallShown, EveryShown, every}
 

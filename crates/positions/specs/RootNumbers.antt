@@ -15,11 +15,10 @@ use Rattle.dimension.specs.Sizes.{isDimension, rootCount}
 use Rattle.dimension.specs.Laws.{Dimension, dimension}
 use Rattle.bisection.specs.Roots.{Permutation, GoodRoot, axesFrom, picks, joined, arrangements, roots}
 use Rattle.bisection.specs.Codes.{minus, axis}
-use Rattle.bisection.specs.Refusals.{each, fresh, permutes}
+use Rattle.bisection.specs.Refusals.{each, fresh, permutes, isRoot}
 use Rattle.bisection.specs.Theorems.Checked.{both, each-at, signed-permutes}
 use Rattle.bisection.specs.Theorems.CodePaths.{some-axes, few-axes}
 use Rattle.bisection.specs.Theorems.Paths.{root-passes}
-use Rattle.codes.specs.Outcomes.{isRoot}
 use Rattle.codes.specs.PathAnswers.{good-root}
 
 -- how many of the entries between place i and place j are smaller than entry i

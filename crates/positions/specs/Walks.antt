@@ -14,9 +14,9 @@ use Rattle.dimension.specs.Sizes.{greatestDepth, splitPlace, boxDepth, codeLeng
 use Rattle.dimension.specs.Laws.{split-range, Within, Turned, deeper}
 use Rattle.bisection.specs.Codes.{axis, minus, high}
 use Rattle.bisection.specs.Refusals.{done, codeRefusal, sameSign}
-use Rattle.codes.specs.Walks.{ownByte}
-use Rattle.codes.specs.Steps.{StepsBack}
-use Rattle.codes.specs.Climbs.{ClimbReady, Climbed, climb-none, up-next}
+use Rattle.entries.specs.Walks.{ownByte}
+use Rattle.steps.specs.Steps.{StepsBack}
+use Rattle.steps.specs.Climbs.{ClimbReady, Climbed, climb-none, up-next}
 use Rattle.positions.specs.Positions.{startOf}
 
 -- the walk's path is in no buffer: it stands as so many zeros before

@@ -9,10 +9,8 @@ ghost use Rattle.positions.specs.Positions.{PositionIs};
 ghost use Rattle.positions.specs.RootNumbers.{smallerIn, numberIn};
 ghost use Rattle.positions.specs.Walks.{WalkReady, Walked, placeAbove, BoxesReady, boxesAbove};
 
-use codes::buffers;
-use codes::entries;
-use codes::steps;
 use dimension::Dim;
+use steps::buffers;
 
 // The number of a cell's root in dictionary order, and its part of the root's stretch.
 pub struct Position {

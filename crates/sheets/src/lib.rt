@@ -9,7 +9,6 @@ ghost use Rattle.sheets.specs.Sheets.{sheetMark, beginsWith, behindMark,
 ghost use Rattle.sheets.specs.Steps.{BodyIs, TakeReady, TakeIs, StepReady, StepIs};
 
 use bisection::DONE;
-use codes::entries;
 use dimension::Dim;
 use positions::Position;
 

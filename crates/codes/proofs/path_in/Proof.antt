@@ -8,7 +8,7 @@ use borrow.Author.Tests.{not-true, not-false}
 use Rattle.dimension.specs.Sizes.{greatestDepth, codeLength}
 use Rattle.dimension.specs.Laws.{axes-range, axes-dimension}
 use Rattle.bisection.specs.Codes.{codeOf}
-use Rattle.codes.specs.Relatives.{refused-writes, done-writes}
+use Rattle.codes.specs.ChildAnswers.{refused-writes, done-writes}
 use Rattle.codes.specs.PathAnswers.{good-root, code-of-length, path-2, path-4, path-7, path-11, path-0}
 use borrow.Author.Needs.{needs}
 use Rattle.codes.proofs.path_in.Statement.{statement}

@@ -3,7 +3,7 @@ use mathlib.Core.Path.{refl, _∙_}
 use native.Mathlib.Omega.{arith}
 use Rattle.crossing.specs.Answers.{refused-short, given}
 use Rattle.crossing.specs.Staying.{staying-room, staying-few, staying-long, staying-most, staying-facet, staying-free, staying-small, staying-movable, staying-written, staying-place}
-use Rattle.codes.specs.Copying.{whole-front}
+use Rattle.steps.specs.Copying.{whole-front}
 use borrow.Author.Needs.{needs}
 use Rattle.crossing.proofs.cross_inside.Statement.{statement}
 use Rattle.crossing.proofs.cross_inside.Tie as tie

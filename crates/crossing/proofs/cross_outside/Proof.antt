@@ -4,7 +4,7 @@ use lib.ListN.{length-set}
 use native.Mathlib.Omega.{arith}
 use Rattle.crossing.specs.Answers.{refused-wall, refused-short, given}
 use Rattle.crossing.specs.Leaving.{leaving-room, leaving-long, leaving-most, leaving-at, leaving-few, leaving-wall, leaving-some, leaving-facet, leaving-axis, leaving-written}
-use Rattle.codes.specs.Copying.{whole-front}
+use Rattle.steps.specs.Copying.{whole-front}
 use borrow.Author.Needs.{needs}
 use Rattle.crossing.proofs.cross_outside.Statement.{statement}
 use Rattle.crossing.proofs.cross_outside.Tie as tie
