@@ -56,6 +56,14 @@ fresh es a i = each i (λ j. not (eqb (axis (getD es j 0)) a))
 unfoldable pub permutes : ℕ → List ℕ → Bool
 permutes d es = each d (λ i. leb 1 (axis (getD es i 0)) && leb (axis (getD es i 0)) d && fresh es (axis (getD es i 0)) i)
 
+-- a root's bytes: axes 1..d, none repeated, and none with a sign
+unfoldable pub isRoot : List ℕ → Bool
+isRoot root = permutes (length root) root && each (length root) (λ i. not (minus (getD root i 0)))
+
+-- a path's bytes: 0 or 1
+unfoldable pub isPath : List ℕ → Bool
+isPath path = each (length path) (λ i. leb (getD path i 0) 1)
+
 -- no orthant byte has a bit at d or above
 unfoldable pub orthantsFit : ℕ → List ℕ → Bool
 orthantsFit d os = each (length os) (λ i. ltb (getD os i 0) (2 ^ d))

@@ -8,13 +8,13 @@ use native.Mathlib.Omega.{arith}
 use native.Mathlib.Decide.{ℕ-discrete}
 use lib.ListN.{length, drop, length-append}
 use lib.Seq.{take-at}
-use Rattle.bisection.specs.Cells.{cellOf}
+use Rattle.bisection.specs.Cells.{cellOf, cellBytes}
 use Rattle.bisection.specs.Codes.{codeOf, IsCodeOf}
 use Rattle.bisection.specs.Refusals.{codeRefusal}
 use Rattle.bisection.specs.Theorems.CodePaths.{one-path}
 use Rattle.codes.specs.declared.Written.{Written}
 use Rattle.codes.specs.declared.PathWritten.{PathWritten}
-use Rattle.codes.specs.Outcomes.{Writes, PathToCode, toPathRefusal, PathOf, CodeToPath, cellBytes, VerticesOf, Vertices, verticesRefusal, Child, ParentOf, Parent, parentRefusal}
+use Rattle.codes.specs.Outcomes.{Writes, PathToCode, toPathRefusal, PathOf, CodeToPath, VerticesOf, Vertices, verticesRefusal, Child, ParentOf, Parent, parentRefusal}
 
 -- an outcome: the answer and the buffer at exit
 same-written : {r r' : Written} → r .refusal ≡ r' .refusal → r .length ≡ r' .length → r ≡ r'

@@ -1,22 +1,19 @@
 -- The head of a code and the order of refusals, one law for each way out of the code that decides them.
-use mathlib.Core.Path.{_≡_, refl, sym, ap, _∙_, subst}
+use mathlib.Core.Path.{_≡_, refl, sym, ap, _∙_}
 use mathlib.Core.Bool.{Bool, true, false, cond, _&&_}
-use mathlib.Core.List.{List, []}
+use mathlib.Core.List.{List}
 use mathlib.Core.Logic.{_≢_}
-use Prim.Native.Nat.{ℕ, zero, suc, _+_, _*_, _/_, _%_, _^_, _≤_, _<_}
+use Prim.Native.Nat.{ℕ, zero, suc, _+_, _≤_, _<_}
 use native.Mathlib.Omega.{arith}
-use lib.Dec.{T, leb, ltb, eqb}
-use lib.ListN.{length, getD, take, drop}
-use lib.Pow.{pow-pos}
-use native.Mathlib.Nat.{div-eq-of-lt, div-add-mod', mod-lt}
-use native.Mathlib.Decide.{decLt}
-use borrow.Author.Tests.{lt-leb, le-leb, le-ltb, lt-ltb, eq-eqb, ne-eqb, leb-true}
-use Rattle.dimension.specs.Sizes.{isDimension, halvings, greatestDepth, codeLength, splitPlace, boxDepth}
-use Rattle.dimension.specs.Laws.{Dimension, dimension, split-range, box-in}
+use lib.Dec.{leb, eqb}
+use lib.ListN.{length, getD, drop}
+use borrow.Author.Tests.{lt-leb, le-leb, eq-eqb, ne-eqb, leb-true}
+use Rattle.dimension.specs.Sizes.{isDimension, halvings, greatestDepth, codeLength, splitPlace}
+use Rattle.dimension.specs.Laws.{Dimension, dimension, box-in}
 use Rattle.bisection.specs.Codes.{axis, dimensionOf, depthOf, entriesOf, orthantsOf}
 use Rattle.bisection.specs.Refusals.{done, refusedDimension, refusedDepth, refusedLength, refusedPermutation, refusedOrthant, refusedSign, fresh, permutes, orthantsFit, signsOwn, need, _then_, headRefusal, bodyRefusal, codeRefusal}
 use Rattle.bisection.specs.Theorems.Checked.{then-done, need-done, each-at, both}
-use Rattle.codes.specs.Walks.{entryFits, permutes-take, joined, fit-joined, ownByte, signsBy, signs-by, AxesWithin, at-place}
+use Rattle.entries.specs.Walks.{entryFits, permutes-take, ownByte, signsBy, signs-by, AxesWithin, at-place}
 use Rattle.codes.specs.declared.Head.{Head}
 use Rattle.codes.specs.Outcomes.{HeadIs}
 
@@ -109,20 +106,9 @@ module _ (code : List ℕ) (n : ℕ) (e : n ≡ dimensionOf code) where
   unfolding entriesOf
   permuted-as = rw (← e) (permutes-take n (drop 2 code))
 
-  over : joined 0 os / 2 ^ n ≢ 0 → orthantsFit (dimensionOf code) (orthantsOf code) ≡ false
+  fit-as : orthantsFit (dimensionOf code) (orthantsOf code) ≡ orthantsFit n os
   unfolding orthantsOf
-  over h = rw (← e) (sym (fit-joined n (drop (2 + n) code)) ∙ go (decLt (joined 0 (drop (2 + n) code)) (2 ^ n)))
-    where
-      go : Dec (joined 0 (drop (2 + n) code) < 2 ^ n) → ltb (joined 0 (drop (2 + n) code)) (2 ^ n) ≡ false
-      go (yes l) = absurd (h (div-eq-of-lt l))
-      go (no l) = le-ltb (joined 0 (drop (2 + n) code)) (2 ^ n) (omega arith)
-
-  within : joined 0 os / 2 ^ n ≡ 0 → orthantsFit (dimensionOf code) (orthantsOf code) ≡ true
-  unfolding orthantsOf
-  within h = rw (← e) (sym (fit-joined n (drop (2 + n) code)) ∙ lt-ltb (joined 0 (drop (2 + n) code)) (2 ^ n) low)
-    where
-      low : joined 0 (drop (2 + n) code) < 2 ^ n
-      low = omega (arith, div-add-mod' (joined 0 (drop (2 + n) code)) (2 ^ n), ap (λ (u : ℕ). u * 2 ^ n) h, mod-lt (joined 0 (drop (2 + n) code)) (pow-pos n))
+  fit-as = rw (← e) refl
 
   signs-as : (k : ℕ) → k ≡ splitPlace (dimensionOf code) (depthOf code) → k ≤ n → signsOwn (splitPlace (dimensionOf code) (depthOf code)) (entriesOf code) (orthantsOf code) ≡ signsBy k es (ownByte os)
   unfolding entriesOf orthantsOf
@@ -137,12 +123,12 @@ module _ (code : List ℕ) (n : ℕ) (e : n ≡ dimensionOf code) where
     unfolding bodyRefusal
     past-4 = holds (permutes (dimensionOf code) (entriesOf code)) refusedPermutation (need (orthantsFit (dimensionOf code) (orthantsOf code)) refusedOrthant then need (signsOwn (splitPlace (dimensionOf code) (depthOf code)) (entriesOf code) (orthantsOf code)) refusedSign) (permuted-as ∙ p)
 
-    pub body-5 : joined 0 os / 2 ^ n ≢ 0 → 5 ≡ refusal
-    body-5 h = sym (past-4 ∙ fails (orthantsFit (dimensionOf code) (orthantsOf code)) 4 (need (signsOwn (splitPlace (dimensionOf code) (depthOf code)) (entriesOf code) (orthantsOf code)) refusedSign) (over h))
+    pub body-5 : orthantsFit n os ≡ false → 5 ≡ refusal
+    body-5 h = sym (past-4 ∙ fails (orthantsFit (dimensionOf code) (orthantsOf code)) 4 (need (signsOwn (splitPlace (dimensionOf code) (depthOf code)) (entriesOf code) (orthantsOf code)) refusedSign) (fit-as ∙ h))
 
-    module _ (o : joined 0 os / 2 ^ n ≡ 0) (k : ℕ) (q : k ≡ splitPlace (dimensionOf code) (depthOf code)) (l : k ≤ n) where
+    module _ (o : orthantsFit n os ≡ true) (k : ℕ) (q : k ≡ splitPlace (dimensionOf code) (depthOf code)) (l : k ≤ n) where
       past-5 : refusal ≡ need (signsOwn (splitPlace (dimensionOf code) (depthOf code)) (entriesOf code) (orthantsOf code)) refusedSign
-      past-5 = past-4 ∙ holds (orthantsFit (dimensionOf code) (orthantsOf code)) refusedOrthant (need (signsOwn (splitPlace (dimensionOf code) (depthOf code)) (entriesOf code) (orthantsOf code)) refusedSign) (within o)
+      past-5 = past-4 ∙ holds (orthantsFit (dimensionOf code) (orthantsOf code)) refusedOrthant (need (signsOwn (splitPlace (dimensionOf code) (depthOf code)) (entriesOf code) (orthantsOf code)) refusedSign) (fit-as ∙ o)
 
       pub body-6 : signsBy k es (ownByte os) ≡ false → 6 ≡ refusal
       body-6 h = sym (past-5 ∙ last-fails (signsOwn (splitPlace (dimensionOf code) (depthOf code)) (entriesOf code) (orthantsOf code)) refusedSign (signs-as k q l ∙ h))

@@ -1,16 +1,16 @@
 -- What each entry of the code layer answers, for every input: the answer and every lent cell, refusals too.
 -- Document 01, "The code" and "Refusal numbers". `before` and `after` are a lent buffer at entry and at exit.
 use mathlib.Core.Path.{_≡_}
-use mathlib.Core.Bool.{Bool, not, _&&_, cond}
+use mathlib.Core.Bool.{_&&_, cond}
 use mathlib.Core.List.{List, [], _∷_, _++_}
 use mathlib.Core.Logic.{_≢_}
-use Prim.Native.Nat.{ℕ, suc, _+_, _-_, _*_, _/_, _%_, _≤_}
+use Prim.Native.Nat.{ℕ, suc, _+_, _-_}
 use lib.Dec.{leb, ltb, eqb}
-use lib.ListN.{length, getD, drop}
+use lib.ListN.{length, drop}
 use Rattle.dimension.specs.Sizes.{isDimension, greatestDepth, codeLength}
-use Rattle.bisection.specs.Cells.{Point, Cell, cellOf}
-use Rattle.bisection.specs.Codes.{minus, codeOf, IsCodeOf, dimensionOf, depthOf, childCode}
-use Rattle.bisection.specs.Refusals.{done, refusedDimension, refusedDepth, refusedPermutation, refusedStep, refusedRoot, refusedDeepest, refusedShort, need, _then_, each, permutes, headRefusal, bodyRefusal, codeRefusal}
+use Rattle.bisection.specs.Cells.{cellOf, cellBytes, cellLength}
+use Rattle.bisection.specs.Codes.{codeOf, IsCodeOf, dimensionOf, depthOf, childCode}
+use Rattle.bisection.specs.Refusals.{done, refusedDimension, refusedDepth, refusedPermutation, refusedStep, refusedRoot, refusedDeepest, refusedShort, need, _then_, headRefusal, codeRefusal, isRoot, isPath}
 use Rattle.codes.specs.declared.Head.{Head}
 use Rattle.codes.specs.declared.Written.{Written}
 use Rattle.codes.specs.declared.PathWritten.{PathWritten}
@@ -26,14 +26,6 @@ pub record Writes (refusal : ℕ) (answer before : List ℕ) (r : Written) (afte
   pub number : r .refusal ≡ refusal
   pub refused : refusal ≢ done → (r .length ≡ 0) × (after ≡ before)
   pub written : refusal ≡ done → (r .length ≡ length answer) × (after ≡ answer ++ drop (length answer) before)
-
--- a root's bytes: axes 1..d, none repeated, and none with a sign
-unfoldable pub isRoot : List ℕ → Bool
-isRoot root = permutes (length root) root && each (length root) (λ i. not (minus (getD root i 0)))
-
--- a path's bytes: 0 or 1
-unfoldable pub isPath : List ℕ → Bool
-isPath path = each (length path) (λ i. leb (getD path i 0) 1)
 
 -- path to code: 1 (root length), 2 (path length), 4, 7, 11
 unfoldable pub pathRefusal : List ℕ → List ℕ → ℕ → ℕ
@@ -67,19 +59,6 @@ pub record CodeToPath (code roots paths : List ℕ) (r : PathWritten) (roots' pa
   pub number : r .refusal ≡ toPathRefusal code (length roots) (length paths)
   pub refused : toPathRefusal code (length roots) (length paths) ≢ done → (r .axes ≡ 0) × (r .depth ≡ 0) × (roots' ≡ roots) × (paths' ≡ paths)
   pub written : toPathRefusal code (length roots) (length paths) ≡ done → PathOf code roots paths r roots' paths'
-
--- a coordinate is two bytes, low byte first; a point its coordinates, a cell its points, in order
-unfoldable pub pointBytes : Point → List ℕ
-pointBytes [] = []
-pointBytes (x ∷ v) = x % 256 ∷ x / 256 ∷ pointBytes v
-
-unfoldable pub cellBytes : Cell → List ℕ
-cellBytes [] = []
-cellBytes (v ∷ vs) = pointBytes v ++ cellBytes vs
-
--- d + 1 points of d coordinates of two bytes
-unfoldable pub cellLength : ℕ → ℕ
-cellLength d = suc d * (2 * d)
 
 unfoldable pub verticesRefusal : List ℕ → ℕ → ℕ
 verticesRefusal code room =

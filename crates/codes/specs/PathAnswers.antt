@@ -1,30 +1,29 @@
 -- Path to code and code to path: the order of their refusals, and their answers.
 use mathlib.Core.Path.{_≡_, refl, sym, ap, _∙_, subst}
-use mathlib.Core.Bool.{Bool, true, false, cond, not, _&&_}
-use mathlib.Core.List.{List, [], _∷_, _++_, append-assoc}
+use mathlib.Core.Bool.{Bool, true, false, not, _&&_}
+use mathlib.Core.List.{List, _++_}
 use mathlib.Core.Logic.{_≢_}
-use Prim.Native.Nat.{ℕ, zero, suc, _+_, _-_, _≤_, _<_}
+use Prim.Native.Nat.{ℕ, _+_, _-_, _≤_, _<_}
 use native.Mathlib.Omega.{arith}
 use native.Mathlib.Nat.{zero-add}
-use lib.Dec.{leb, ltb}
+use lib.Dec.{leb}
 use lib.ListN.{length, getD, take, drop, length-append, length-take, length-drop, take-append-drop}
 use lib.Seq.{paste, take-at, drop-at, take-all}
-use borrow.Author.Tests.{le-leb, lt-leb, leb-true, not-true}
+use borrow.Author.Tests.{le-leb, lt-leb, not-true}
 use Rattle.dimension.specs.Sizes.{isDimension, greatestDepth, codeLength, boxDepth}
-use Rattle.dimension.specs.Laws.{Dimension, dimension}
-use Rattle.bisection.specs.Roots.{Permutation, GoodRoot, GoodPath}
-use Rattle.bisection.specs.Codes.{axis, minus, Name, bytes, codeOf, IsCodeOf, dimensionOf, depthOf, entriesOf, orthantsOf, partsOf}
-use Rattle.bisection.specs.Refusals.{done, refusedDimension, refusedDepth, refusedPermutation, refusedStep, refusedShort, need, _then_, each, permutes, codeRefusal}
+use Rattle.dimension.specs.Laws.{dimension}
+use Rattle.bisection.specs.Roots.{GoodRoot}
+use Rattle.bisection.specs.Codes.{axis, minus, bytes, codeOf, IsCodeOf, dimensionOf, depthOf, entriesOf, orthantsOf, partsOf}
+use Rattle.bisection.specs.Refusals.{refusedDimension, refusedDepth, refusedPermutation, refusedStep, refusedShort, need, _then_, each, permutes, codeRefusal, isRoot, isPath}
 use Rattle.bisection.specs.Theorems.Entries.{Signed}
-use Rattle.bisection.specs.Theorems.Passing.{Passes}
 use Rattle.bisection.specs.Theorems.Paths.{plain-axis, pathTo, rootTo}
 use Rattle.bisection.specs.Theorems.Checked.{both, each-at, permutes-signed}
 use Rattle.bisection.specs.Theorems.CodePaths.{name-passes, code-path, rootOf, pathOf, the-root, the-path, length-root, length-path-of}
 use Rattle.codes.specs.declared.PathWritten.{PathWritten}
-use Rattle.codes.specs.Outcomes.{isRoot, isPath, pathRefusal, toPathRefusal, PathOf, CodeToPath}
+use Rattle.codes.specs.Outcomes.{pathRefusal, toPathRefusal, PathOf, CodeToPath}
 use Rattle.codes.specs.Heads.{fails, holds, last-fails, last-holds, first-stands, first-done}
-use Rattle.codes.specs.Relatives.{Checked, checked}
-use Rattle.codes.specs.Climbs.{nameAbove, ClimbReady, Climbed}
+use Rattle.entries.specs.Passed.{Checked, checked}
+use Rattle.steps.specs.Climbs.{nameAbove, ClimbReady, Climbed}
 
 -- a root's bytes are a good root
 pub good-root : (root : List ℕ) → isDimension (length root) ≡ true → isRoot root ≡ true → GoodRoot root

@@ -1,13 +1,6 @@
 // The code layer: check, path to code, code to path, vertices, child, parent. Each entry takes any bytes, numbers
 // and lent buffers and tests its own input; an early `return` for each refusal stands in document 01's order, and
 // nothing is written before the last refusal is past. No entry has a requires.
-pub mod entries; // entries.rt: signed entries and orthant bytes
-pub mod check; // check.rt: the walks that test a body
-pub mod buffers; // buffers.rt: entries in a lent buffer
-pub mod steps; // steps.rt: one step on, one step back
-mod corners; // corners.rt: the vertices of a cell
-mod walks; // walks.rt: a whole path down, a whole path up
-
 ghost use mathlib.Core.Path.{_≡_};
 ghost use mathlib.Core.Bool.{Bool, true, false, not, cond};
 ghost use Prim.Native.Nat.{_+_, _-_, _≤_, _<_};
@@ -31,6 +24,9 @@ use bisection::REFUSED_SIGN;
 use bisection::REFUSED_STEP;
 use dimension::Dim;
 use dimension::Known;
+use entries::check;
+use steps::buffers;
+use steps::walks;
 
 // What the first two bytes of a code say.
 pub struct Head {
@@ -88,7 +84,7 @@ pub fn code_body(code: &[u8]) -> u8
     if !check::permuted(code, 2, d) {
         return REFUSED_PERMUTATION;
     }
-    if check::any_bit(code, 2 + d) >> d != 0 {
+    if !check::orthants_fit(code, d) {
         return REFUSED_ORTHANT;
     }
     let k = dim.split_place(entries::size(code[1]));

@@ -13,7 +13,7 @@ use Rattle.bisection.specs.Refusals.{sameSign}
 use Rattle.bisection.specs.Theorems.Table.{flipped, runsOut, carried}
 use Rattle.bisection.specs.Theorems.Crossing.Flips.{Parts, parts, digit}
 use Rattle.bisection.specs.Theorems.Crossing.Stops.{runsOut-front, carried-front}
-use Rattle.codes.specs.Masks.{shifted-bit}
+use Rattle.entries.specs.Masks.{shifted-bit}
 
 -- a byte with one bit flipped, as the code's xor makes it
 bit-flipped : (u : ℕ) (t : Bool) → bitXor (2 * u + digit t) 1 ≡ 2 * u + digit (not t)

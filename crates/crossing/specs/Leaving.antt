@@ -10,15 +10,15 @@ use lib.Dec.{T}
 use lib.ListN.{length, getD, take, drop, set, length-append}
 use lib.Seq.{slice, drop-length, set-append-left, take-at, drop-at}
 use borrow.Author.Tests.{eq-eqb, ne-eqb}
-use Rattle.dimension.specs.Sizes.{codeLength, splitPlace}
+use Rattle.dimension.specs.Sizes.{halvings, codeLength, splitPlace}
 use Rattle.bisection.specs.Codes.{axis, minus, negated, high, Name, bytes, dimensionOf, depthOf, entriesOf, orthantsOf, partsOf}
 use Rattle.bisection.specs.Refusals.{done, codeRefusal}
 use Rattle.bisection.specs.Theorems.Entries.{axis-negated, minus-negated}
 use Rattle.bisection.specs.Theorems.Table.{farther, nearer, move, moveOf, newAt, newPlace, nextOwn, negatedAt, entriesBy, orthantsBy, blockedBy, blocked, acrossName, runsOut, carried}
 use Rattle.bisection.specs.Theorems.Crossing.Rearranged.{negatedAt-length}
 use Rattle.bisection.specs.Theorems.Neighbour.{isBlocked, tableCode, tablePlace}
-use Rattle.codes.specs.Buffers.{entry-at}
-use Rattle.codes.specs.Relatives.{Checked, checked}
+use Rattle.entries.specs.Walks.{entry-at}
+use Rattle.entries.specs.Passed.{code-few, Checked, checked}
 use Rattle.crossing.specs.Carrying.{carriedIn}
 
 -- the row: what the table says, told by the entry e against which the box moves and the place whose sign changes
@@ -139,6 +139,9 @@ module _ {code : List ℕ} {d at e i : ℕ} (r : Leaving code d at e i) where
 
   pub leaving-long : 4 ≤ length code
   leaving-long = omega (arith, leaving-room, r .axes, k' .range .two)
+
+  pub leaving-most : length code ≤ 6 + halvings
+  leaving-most = code-few k'
 
   pub leaving-at : 2 + at < length code
   leaving-at = omega (arith, leaving-room, r .place)

@@ -14,7 +14,8 @@ use Rattle.bisection.specs.Refusals.{sameSign}
 use Rattle.bisection.specs.Theorems.Entries.{Signed, unturned}
 use Rattle.bisection.specs.Theorems.Table.{Move, swap, nearer, left, right, trade, move, newAt, exchanged, negatedAt, entriesBy}
 use Rattle.bisection.specs.Theorems.Crossing.Rearranged.{exchanged-first, exchanged-second, exchanged-other, exchanged-length, negatedAt-at, negatedAt-other, negatedAt-length}
-use Rattle.codes.specs.Buffers.{atPlace, entry-at}
+use Rattle.steps.specs.Buffers.{atPlace}
+use Rattle.entries.specs.Walks.{entry-at}
 
 -- two stores at places from 2 on
 set-places : (l : List ℕ) (t u v w : ℕ) → set (set l (2 + t) v) (2 + u) w ≡ atPlace 2 (λ m. set (set m t v) u w) l

@@ -10,7 +10,7 @@ use lib.Dec.{eqb}
 use lib.ListN.{length, getD, drop, length-append, List·getD-append}
 use lib.Seq.{take-at}
 use borrow.Author.Tests.{ne-eqb}
-use Rattle.dimension.specs.Sizes.{codeLength, splitPlace}
+use Rattle.dimension.specs.Sizes.{halvings, codeLength, splitPlace}
 use Rattle.dimension.specs.Laws.{split-range}
 use Rattle.bisection.specs.Codes.{axis, minus, high, Name, bytes, dimensionOf, depthOf, entriesOf, orthantsOf, partsOf}
 use Rattle.bisection.specs.Refusals.{done, sameSign, ownMinus, codeRefusal}
@@ -18,9 +18,9 @@ use Rattle.bisection.specs.Theorems.Table.{swap, left, right, trade, moveOf, ne
 use Rattle.bisection.specs.Theorems.Crossing.Moves.{view}
 use Rattle.bisection.specs.Theorems.Crossing.Sound.{Allowed, allowed}
 use Rattle.bisection.specs.Theorems.Neighbour.{isBlocked, tableCode, tablePlace}
-use Rattle.codes.specs.Buffers.{atPlace}
-use Rattle.codes.specs.Walks.{ownByte}
-use Rattle.codes.specs.Relatives.{Checked, checked}
+use Rattle.steps.specs.Buffers.{atPlace}
+use Rattle.entries.specs.Walks.{ownByte}
+use Rattle.entries.specs.Passed.{code-few, Checked, checked}
 use Rattle.crossing.specs.Rearranging.{ownNext, Rearranges, within, within-is, Movable}
 use Rattle.crossing.specs.Answers.{entries-append, table-place}
 
@@ -85,6 +85,9 @@ module _ {code : List ℕ} {d k i : ℕ} (r : Staying code d k i) where
 
   pub staying-long : 4 ≤ length code
   staying-long = omega (arith, staying-room, r .axes, c .range .two)
+
+  pub staying-most : length code ≤ 6 + halvings
+  staying-most = code-few c
 
   pub staying-few : d ≤ 8
   staying-few = omega (arith, c .range .few, r .axes)

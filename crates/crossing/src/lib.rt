@@ -9,7 +9,7 @@ ghost use Prim.Native.Nat.{_+_, _-_, _≤_, _<_};
 ghost use lib.ListN.{length, drop};
 ghost use Rattle.bisection.specs.Codes.{axis, minus};
 ghost use Rattle.bisection.specs.Theorems.Table.{left, right, trade, swap, exchanged, flipped, runsOut};
-ghost use Rattle.codes.specs.Buffers.{atPlace};
+ghost use Rattle.steps.specs.Buffers.{atPlace};
 ghost use Rattle.crossing.specs.Outcome.{Crosses};
 ghost use Rattle.crossing.specs.Carrying.{carriedIn};
 ghost use Rattle.crossing.specs.Rearranging.{traded, ownNext, Rearranges, Movable, MovableAt, within};
@@ -20,10 +20,9 @@ use bisection::DONE;
 use bisection::REFUSED_FACE;
 use bisection::REFUSED_SHORT;
 use bisection::REFUSED_STEP;
-use codes::buffers;
-use codes::check;
-use codes::entries;
 use dimension::Dim;
+use entries::check;
+use steps::buffers;
 
 // The answer: the place of the new vertex, and how many bytes of the code across stand at the buffer's front.
 #[repr(C)]

@@ -5,10 +5,10 @@ use mathlib.Core.Path.{_≡_}
 use mathlib.Core.List.{List, [], _∷_, _++_}
 use Prim.Native.Nat.{ℕ, _≤_}
 use lib.ListN.{length, drop}
-use Rattle.bisection.specs.Cells.{Cell}
+use Rattle.bisection.specs.Cells.{Cell, cellBytes}
 use Rattle.bisection.specs.Refusals.{done, refusedFace, codeRefusal}
 use Rattle.codes.specs.declared.Written.{Written}
-use Rattle.codes.specs.Outcomes.{PathToCode, cellBytes, Vertices, Child}
+use Rattle.codes.specs.Outcomes.{PathToCode, Vertices, Child}
 use Rattle.crossing.specs.Outcome.{Crosses}
 use Rattle.sheets.specs.Sheets.{told, SheetIs}
 use Rattle.listing.specs.Texts.{Lists}

@@ -8,17 +8,17 @@ use lib.ListN.{length, getD, drop}
 use borrow.Author.Tests.{le-leb, leb-true}
 use Rattle.dimension.specs.Sizes.{isDimension, greatestDepth, codeLength}
 use native.Mathlib.Omega.{arith}
-use Rattle.bisection.specs.Cells.{Cell, cellOf}
+use Rattle.bisection.specs.Cells.{Cell, cellOf, cellBytes, cellLength}
 use Rattle.bisection.specs.Codes.{codeOf, dimensionOf, depthOf, childCode}
-use Rattle.bisection.specs.Refusals.{done, refusedShort, need, _then_, codeRefusal}
+use Rattle.bisection.specs.Refusals.{done, refusedShort, need, _then_, codeRefusal, isRoot, isPath}
 use Rattle.bisection.specs.Theorems.CodePaths.{rootOf, pathOf, code-path}
 use Rattle.bisection.specs.Theorems.CodeCells.{code-cell}
 use Rattle.bisection.specs.Facets.{IsCell, Across}
 use Rattle.bisection.specs.Theorems.Neighbour.{isBlocked, tableCode, tablePlace, face-is-blocked, blocked-is-face, blocked-alone, across-unblocked}
-use Rattle.codes.specs.Outcomes.{isRoot, isPath, pathRefusal, PathToCode, cellBytes, cellLength, verticesRefusal, Vertices, childRefusal, Child}
+use Rattle.codes.specs.Outcomes.{pathRefusal, PathToCode, verticesRefusal, Vertices, childRefusal, Child}
 use Rattle.codes.specs.Heads.{first-done, last-holds}
 use Rattle.codes.specs.PathAnswers.{good-root, path-0, code-of-length}
-use Rattle.codes.specs.Relatives.{done-writes, child-0, child-length}
+use Rattle.codes.specs.ChildAnswers.{done-writes, child-0, child-length}
 use Rattle.crossing.specs.Outcome.{Crosses, crossed, wall}
 use Rattle.sheets.specs.Sheets.{sheetMark, sampleWidth, GoodSheet, good}
 use Rattle.listing.specs.Texts.{sheetLimit, goodText, Listing}

@@ -5,15 +5,14 @@ use Prim.Native.Nat.{ℕ}
 use Rattle.dimension.specs.Sizes.{isDimension, halvings, cubeSide, greatestDepth, level, splitPlace, boxDepth, codeLength}
 use native.Mathlib.Omega.{arith}
 use Rattle.bisection.specs.Roots.{roots, arrangements, joined, picks, axesFrom}
-use Rattle.bisection.specs.Cells.{midpoint, child, moved, corners, rootCell, cellBelow, cellOf}
+use Rattle.bisection.specs.Cells.{midpoint, child, moved, corners, rootCell, cellBelow, cellOf, pointBytes, cellBytes, cellLength}
 use Rattle.bisection.specs.Codes.{minus, axis, negated, turned, stepped, high, minusOn, orthantTo, orthant, step, nameBelow, nameOf, bytes, codeOf, dimensionOf, depthOf, entriesOf, orthantsOf, partsOf, childCode}
-use Rattle.bisection.specs.Refusals.{done, refusedSign, need, _then_, each, fresh, permutes, orthantsFit, ownMinus, signsOwn, headRefusal, bodyRefusal, codeRefusal}
+use Rattle.bisection.specs.Refusals.{done, refusedSign, need, _then_, each, fresh, permutes, orthantsFit, ownMinus, signsOwn, headRefusal, bodyRefusal, codeRefusal, isRoot, isPath}
 use Rattle.bisection.specs.Theorems.CodePaths.{rootOf, pathOf}
 use Rattle.bisection.specs.Theorems.Paths.{rootTo, pathTo}
 use Rattle.bisection.specs.Theorems.Passing.{parentName, lastStep, unstepped, fewer}
 use Rattle.bisection.specs.Theorems.Entries.{unturned}
 use Rattle.bisection.specs.Theorems.Table.{move, newAt, exchanged, negatedAt, entriesBy, flipped, runsOut, carried, orthantsBy, blockedBy, nextOwn, moveOf, blocked, acrossName, newPlace}
-use Rattle.codes.specs.Outcomes.{isRoot, isPath, pointBytes, cellBytes, cellLength}
 use Rattle.sheets.specs.Forests.{cell, leaf, leaves, rootCells, within-none, within-more}
 use Rattle.sheets.specs.Forests.{none as forest-none, more as forest-more}
 use Rattle.sheets.specs.Sheets.{sheetMark, sampleWidth, none, more, GoodSheet}

@@ -6,7 +6,7 @@ ghost use lib.ListN.{length};
 ghost use Rattle.listing.specs.Texts.{decimal as Texts·decimal, hex as Texts·hex, digit as Texts·digit, leafLine, numberLine};
 ghost use Rattle.listing.specs.Putting.{Puts};
 
-use codes::buffers;
+use steps::buffers;
 
 // Puts bytes.
 pub fn put(out: &mut [u8], at: usize, bytes: &[u8]) -> usize

@@ -12,7 +12,7 @@ use Rattle.bisection.specs.Codes.{dimensionOf, depthOf, IsCodeOf}
 use Rattle.bisection.specs.Refusals.{done, codeRefusal}
 use Rattle.bisection.specs.Theorems.CodePaths.{rootOf, pathOf, length-root, length-path-of}
 use Rattle.codes.specs.Outcomes.{PathOf}
-use Rattle.codes.specs.Relatives.{Checked, checked}
+use Rattle.entries.specs.Passed.{Checked, checked}
 use Rattle.codes.specs.PathAnswers.{climb-ready-of, climb-copy, to-path-done}
 use Rattle.positions.specs.declared.Position.{Position}
 use Rattle.positions.specs.Positions.{startOf, sizeOf, PositionIs}

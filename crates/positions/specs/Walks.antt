@@ -14,9 +14,9 @@ use Rattle.dimension.specs.Sizes.{greatestDepth, splitPlace, boxDepth, codeLeng
 use Rattle.dimension.specs.Laws.{split-range, Within, Turned, deeper}
 use Rattle.bisection.specs.Codes.{axis, minus, high}
 use Rattle.bisection.specs.Refusals.{done, codeRefusal, sameSign}
-use Rattle.codes.specs.Walks.{ownByte}
-use Rattle.codes.specs.Steps.{StepsBack}
-use Rattle.codes.specs.Climbs.{ClimbReady, Climbed, climb-none, up-next}
+use Rattle.entries.specs.Walks.{ownByte}
+use Rattle.steps.specs.Steps.{StepsBack}
+use Rattle.steps.specs.Climbs.{ClimbReady, Climbed, climb-none, up-next}
 use Rattle.positions.specs.Positions.{startOf}
 
 -- the walk's path is in no buffer: it stands as so many zeros before
@@ -179,19 +179,6 @@ module _ {k d boxes t : ℕ} (d0 : 0 < d) (pos : 0 < t) (e : k ≡ splitPlace d 
 
   pub above-ready : BoxesReady boxes k d
   above-ready = record { some = a .some }
-
--- the own byte by the count of boxes
-pub own-none : (d boxes : ℕ) (code : List ℕ) → boxes ≡ 0 → 0 ≡ ownByte (take boxes (drop (2 + d) code))
-own-none d boxes code e = rw e refl
-
-pub own-last : (d boxes : ℕ) (code : List ℕ) → 2 + d + boxes ≤ length code → (boxes ≡ 0 → ⊥) → getD code (1 + d + boxes) 0 ≡ ownByte (take boxes (drop (2 + d) code))
-own-last d boxes code h n = sym (rw counted (getD-take boxes (drop (2 + d) code) (boxes - 1) 0 (omega arith) ∙ getD-drop (2 + d) code (boxes - 1) 0) ∙ ap (λ (i : ℕ). getD code i 0) there)
-  where
-    counted : length (take boxes (drop (2 + d) code)) ≡ boxes
-    counted = simp (length-take, length-drop) (omega arith)
-
-    there : 2 + d + (boxes - 1) ≡ 1 + d + boxes
-    there = omega arith
 
 -- the code has a byte for each box of a depth above
 pub boxes-room : (d t : ℕ) (code : List ℕ) → codeLength d t ≤ length code → 2 + d + boxDepth d t ≤ length code

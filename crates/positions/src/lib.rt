@@ -2,18 +2,15 @@
 // knows a cell by its position alone.
 ghost use mathlib.Core.Path.{_≡_};
 ghost use Prim.Native.Nat.{_+_, _-_, _*_, _^_, _≤_, _<_};
-ghost use lib.ListN.{length, take, drop};
+ghost use lib.ListN.{length};
 ghost use Rattle.dimension.specs.Sizes.{axesOf, greatestDepth};
 ghost use Rattle.bisection.specs.Refusals.{done, codeRefusal};
-ghost use Rattle.codes.specs.Walks.{ownByte};
 ghost use Rattle.positions.specs.Positions.{PositionIs};
 ghost use Rattle.positions.specs.RootNumbers.{smallerIn, numberIn};
 ghost use Rattle.positions.specs.Walks.{WalkReady, Walked, placeAbove, BoxesReady, boxesAbove};
 
-use codes::buffers;
-use codes::entries;
-use codes::steps;
 use dimension::Dim;
+use steps::buffers;
 
 // The number of a cell's root in dictionary order, and its part of the root's stretch.
 pub struct Position {
@@ -95,17 +92,6 @@ fn boxes_above(boxes: usize, k: usize, axes: usize) -> usize
     boxes
 }
 
-// The byte of the own signs of the box, of the first so many, 0 where there is none.
-fn own_of(code: &[u8], axes: usize, boxes: usize) -> u8
-    requires { ⌜ 2 + axes + boxes ≤ length (now code) ⌝ }
-    ensures { λ r. ⌜ r ≡ ownByte (take boxes (drop (2 + axes) (now (code .entry)))) ⌝ }
-{
-    if boxes == 0 {
-        return 0;
-    }
-    code[1 + axes + boxes]
-}
-
 // Takes the steps of the entries in `root` back, the deepest first, down to the root; gives where the cell starts.
 fn walk(code: &[u8], dim: Dim, depth: usize, root: &mut [u8], size: u64) -> u64
     requires { ⌜ WalkReady (axesOf dim) depth (now code) (now root) size ⌝ }
@@ -121,7 +107,7 @@ fn walk(code: &[u8], dim: Dim, depth: usize, root: &mut [u8], size: u64) -> u64
         t -= 1;
         boxes = boxes_above(boxes, k, axes);
         k = place_above(k, axes);
-        let own = own_of(code, axes, boxes);
+        let own = steps::own_of(code, axes, boxes);
         start += wide(steps::unstep(root, 0, k - 1, own)) * half;
         half = half * 2;
     }

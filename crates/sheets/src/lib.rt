@@ -10,7 +10,6 @@ ghost use Rattle.sheets.specs.Sheets.{sheetMark, sampleWidth, beginsWith
 ghost use Rattle.sheets.specs.Steps.{BodyIs, LengthsAre, TakeReady, TakeIs, StepReady, StepIs};
 
 use bisection::DONE;
-use codes::entries;
 use dimension::Dim;
 use positions::Position;
 

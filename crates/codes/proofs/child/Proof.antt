@@ -7,7 +7,8 @@ use native.Mathlib.Omega.{arith}
 use native.Mathlib.Numerals.{add-one}
 use Rattle.bisection.specs.Codes.{dimensionOf, depthOf, childCode}
 use Rattle.dimension.specs.Sizes.{axesOf, codeLength}
-use Rattle.codes.specs.Relatives.{checked, checked-two, refused-writes, done-writes, child-own, child-7, child-10, child-11, child-0, child-length, length-next, limit-as, below-as}
+use Rattle.entries.specs.Passed.{checked, checked-two}
+use Rattle.codes.specs.ChildAnswers.{refused-writes, done-writes, child-own, child-7, child-10, child-11, child-0, child-length, length-next, limit-as, below-as}
 use borrow.Author.Needs.{needs}
 use Rattle.codes.proofs.child.Statement.{statement}
 use Rattle.codes.proofs.child.Tie as tie

@@ -23,31 +23,19 @@ axes-requires c κs = search needs
 
 permuted-requires : tie.Need-permuted-requires
 unfolding dimensionOf
-permuted-requires c κs = omega (arith, c .axes .ensures ∙ c .before .checked .ensures, ready-range (c .before .before .before .before .pre) .few, ready-room (c .before .before .before .before .pre))
+permuted-requires c κs = omega (arith, c .axes .ensures ∙ c .before .checked .ensures, ready-range (c .before .before .before .before .pre) .two, ready-range (c .before .before .before .before .pre) .few, ready-room (c .before .before .before .before .pre))
 
 returns : tie.Need-returns
 unfolding dimensionOf
 returns c = body-4 (c .before .before .before .before .before .before .args .code .now) _ (c .before .before .axes .ensures ∙ c .before .before .before .checked .ensures) (sym (c .before .permuted .ensures) ∙ not-true _ (c .if1 .taken))
 
-add-any-bit : tie.Need-add-any-bit
+orthants-fit-requires : tie.Need-orthants-fit-requires
 unfolding dimensionOf
-add-any-bit c = omega (arith, c .before .before .axes .ensures ∙ c .before .before .before .checked .ensures, ready-range (c .before .before .before .before .before .before .pre) .few, ready-room (c .before .before .before .before .before .before .pre))
-
-any-bit-requires : tie.Need-any-bit-requires
-unfolding dimensionOf
-any-bit-requires c κs = omega (arith, c .before .before .axes .ensures ∙ c .before .before .before .checked .ensures, ready-range (c .before .before .before .before .before .before .pre) .few, ready-room (c .before .before .before .before .before .before .pre), ready-few (c .before .before .before .before .before .before .pre))
-
-cast-if2 : tie.Need-cast-if2
-unfolding dimensionOf
-cast-if2 c = omega (arith, c .before .before .before .axes .ensures ∙ c .before .before .before .before .checked .ensures, ready-range (c .before .before .before .before .before .before .before .pre) .few, ready-room (c .before .before .before .before .before .before .before .pre))
-
-shr-if2 : tie.Need-shr-if2
-unfolding dimensionOf
-shr-if2 c = omega (arith, c .before .before .before .axes .ensures ∙ c .before .before .before .before .checked .ensures, ready-range (c .before .before .before .before .before .before .before .pre) .few, ready-room (c .before .before .before .before .before .before .before .pre))
+orthants-fit-requires c κs = omega (arith, c .before .before .axes .ensures ∙ c .before .before .before .checked .ensures, ready-range (c .before .before .before .before .before .before .pre) .few, ready-room (c .before .before .before .before .before .before .pre), ready-few (c .before .before .before .before .before .before .pre))
 
 returns-2 : tie.Need-returns-2
 unfolding dimensionOf
-returns-2 c = body-5 (c .before .before .before .before .before .before .before .before .args .code .now) _ (c .before .before .before .before .axes .ensures ∙ c .before .before .before .before .before .checked .ensures) (sym (c .before .before .before .permuted .ensures) ∙ not-false _ (c .before .before .if1 .left)) (rw (c .before .any-bit .ensures) at (c .if2 .taken))
+returns-2 c = body-5 (c .before .before .before .before .before .before .before .before .args .code .now) _ (c .before .before .before .before .axes .ensures ∙ c .before .before .before .before .before .checked .ensures) (sym (c .before .before .before .permuted .ensures) ∙ not-false _ (c .before .before .if1 .left)) (sym (c .before .orthants-fit .ensures) ∙ not-true _ (c .if2 .taken))
 
 shared-slice-read-size : tie.Need-shared-slice-read-size
 shared-slice-read-size c = omega (arith, ready-room (c .before .before .before .before .before .before .before .before .before .pre), ready-range (c .before .before .before .before .before .before .before .before .before .pre) .two)
@@ -77,7 +65,7 @@ returns-3 c =
     let n : c .before .before .before .before .before .before .before .before .before .before .axes .result ≡ dimensionOf (c .before .before .before .before .before .before .before .before .before .before .before .before .before .before .args .code .now) = (c .before .before .before .before .before .before .before .before .before .before .axes .ensures ∙ c .before .before .before .before .before .before .before .before .before .before .before .checked .ensures) in
     let q : c .before .before .before .split-place .result ≡ splitPlace (dimensionOf (c .before .before .before .before .before .before .before .before .before .before .before .before .before .before .args .code .now)) (depthOf (c .before .before .before .before .before .before .before .before .before .before .before .before .before .before .args .code .now)) = c .before .before .before .split-place .ensures ∙ ap (λ (d : ℕ). splitPlace d (c .before .before .before .before .size .result)) (c .before .before .before .before .before .before .before .before .before .before .before .checked .ensures) ∙ ap (splitPlace (dimensionOf (c .before .before .before .before .before .before .before .before .before .before .before .before .before .before .args .code .now))) (c .before .before .before .before .size .ensures) in
     let l : c .before .before .before .split-place .result ≤ c .before .before .before .before .before .before .before .before .before .before .axes .result = omega (arith, q, n, split-range (dimensionOf (c .before .before .before .before .before .before .before .before .before .before .before .before .before .before .args .code .now)) (depthOf (c .before .before .before .before .before .before .before .before .before .before .before .before .before .before .args .code .now)) (omega (arith, ready-range (c .before .before .before .before .before .before .before .before .before .before .before .before .before .before .pre) .two)) .1) in
-    body-6 (c .before .before .before .before .before .before .before .before .before .before .before .before .before .before .args .code .now) _ n (sym (c .before .before .before .before .before .before .before .before .before .permuted .ensures) ∙ not-false _ (c .before .before .before .before .before .before .before .before .if1 .left)) (rw (c .before .before .before .before .before .before .before .any-bit .ensures) at (c .before .before .before .before .before .before .if2 .left)) _ q l (rw (c .before .before .own-byte .ensures) at (sym (c .before .signs-by .ensures) ∙ not-true _ (c .if3 .taken)))
+    body-6 (c .before .before .before .before .before .before .before .before .before .before .before .before .before .before .args .code .now) _ n (sym (c .before .before .before .before .before .before .before .before .before .permuted .ensures) ∙ not-false _ (c .before .before .before .before .before .before .before .before .if1 .left)) (sym (c .before .before .before .before .before .before .before .orthants-fit .ensures) ∙ not-false _ (c .before .before .before .before .before .before .if2 .left)) _ q l (rw (c .before .before .own-byte .ensures) at (sym (c .before .signs-by .ensures) ∙ not-true _ (c .if3 .taken)))
 
 returns-4 : tie.Need-returns-4
 unfolding dimensionOf depthOf
@@ -85,7 +73,7 @@ returns-4 c =
     let n : c .before .before .before .before .before .before .before .before .before .before .axes .result ≡ dimensionOf (c .before .before .before .before .before .before .before .before .before .before .before .before .before .before .args .code .now) = (c .before .before .before .before .before .before .before .before .before .before .axes .ensures ∙ c .before .before .before .before .before .before .before .before .before .before .before .checked .ensures) in
     let q : c .before .before .before .split-place .result ≡ splitPlace (dimensionOf (c .before .before .before .before .before .before .before .before .before .before .before .before .before .before .args .code .now)) (depthOf (c .before .before .before .before .before .before .before .before .before .before .before .before .before .before .args .code .now)) = c .before .before .before .split-place .ensures ∙ ap (λ (d : ℕ). splitPlace d (c .before .before .before .before .size .result)) (c .before .before .before .before .before .before .before .before .before .before .before .checked .ensures) ∙ ap (splitPlace (dimensionOf (c .before .before .before .before .before .before .before .before .before .before .before .before .before .before .args .code .now))) (c .before .before .before .before .size .ensures) in
     let l : c .before .before .before .split-place .result ≤ c .before .before .before .before .before .before .before .before .before .before .axes .result = omega (arith, q, n, split-range (dimensionOf (c .before .before .before .before .before .before .before .before .before .before .before .before .before .before .args .code .now)) (depthOf (c .before .before .before .before .before .before .before .before .before .before .before .before .before .before .args .code .now)) (omega (arith, ready-range (c .before .before .before .before .before .before .before .before .before .before .before .before .before .before .pre) .two)) .1) in
-    body-0 (c .before .before .before .before .before .before .before .before .before .before .before .before .before .before .args .code .now) _ n (sym (c .before .before .before .before .before .before .before .before .before .permuted .ensures) ∙ not-false _ (c .before .before .before .before .before .before .before .before .if1 .left)) (rw (c .before .before .before .before .before .before .before .any-bit .ensures) at (c .before .before .before .before .before .before .if2 .left)) _ q l (rw (c .before .before .own-byte .ensures) at (sym (c .before .signs-by .ensures) ∙ not-false _ (c .if3 .left)))
+    body-0 (c .before .before .before .before .before .before .before .before .before .before .before .before .before .before .args .code .now) _ n (sym (c .before .before .before .before .before .before .before .before .before .permuted .ensures) ∙ not-false _ (c .before .before .before .before .before .before .before .before .if1 .left)) (sym (c .before .before .before .before .before .before .before .orthants-fit .ensures) ∙ not-false _ (c .before .before .before .before .before .before .if2 .left)) _ q l (rw (c .before .before .own-byte .ensures) at (sym (c .before .signs-by .ensures) ∙ not-false _ (c .if3 .left)))
 
 pub code-body-spec : {M : Type 1} → statement M
 code-body-spec =
@@ -96,10 +84,7 @@ code-body-spec =
     axes-requires
     permuted-requires
     returns
-    add-any-bit
-    any-bit-requires
-    cast-if2
-    shr-if2
+    orthants-fit-requires
     returns-2
     shared-slice-read-size
     size-requires

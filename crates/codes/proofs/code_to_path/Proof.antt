@@ -5,7 +5,7 @@ use Prim.Native.Nat.{ℕ, suc, _+_, _-_, _%_, _≤_, _<_}
 use lib.ListN.{length, getD, take, drop, length-set}
 use native.Mathlib.Omega.{arith}
 use Rattle.bisection.specs.Codes.{dimensionOf, depthOf}
-use Rattle.codes.specs.Relatives.{checked, checked-two}
+use Rattle.entries.specs.Passed.{checked, checked-two}
 use Rattle.codes.specs.PathAnswers.{to-path-refused, to-path-own, root-short, path-short, climb-copy, climb-ready-of, to-path-done}
 use borrow.Author.Needs.{needs}
 use Rattle.codes.proofs.code_to_path.Statement.{statement}

@@ -6,8 +6,8 @@ use lib.ListN.{length, getD, take, drop, length-set}
 use native.Mathlib.Omega.{arith}
 use Rattle.bisection.specs.Codes.{dimensionOf, depthOf}
 use Rattle.bisection.specs.Theorems.CodePaths.{parentCode}
-use Rattle.codes.specs.Relatives.{checked, checked-two}
-use Rattle.codes.specs.Parents.{parent-refused, parent-done, parent-own, parent-9, parent-11, length-before}
+use Rattle.entries.specs.Passed.{checked, checked-two}
+use Rattle.codes.specs.ParentAnswers.{parent-refused, parent-done, parent-own, parent-9, parent-11, length-before}
 use borrow.Author.Needs.{needs}
 use Rattle.codes.proofs.parent.Statement.{statement}
 use Rattle.codes.proofs.parent.Tie as tie

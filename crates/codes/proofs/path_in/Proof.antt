@@ -8,7 +8,7 @@ use borrow.Author.Tests.{not-true, not-false}
 use Rattle.dimension.specs.Sizes.{greatestDepth, codeLength}
 use Rattle.dimension.specs.Laws.{axes-range, axes-dimension}
 use Rattle.bisection.specs.Codes.{codeOf}
-use Rattle.codes.specs.Relatives.{refused-writes, done-writes}
+use Rattle.codes.specs.ChildAnswers.{refused-writes, done-writes}
 use Rattle.codes.specs.PathAnswers.{good-root, code-of-length, path-2, path-4, path-7, path-11, path-0}
 use borrow.Author.Needs.{needs}
 use Rattle.codes.proofs.path_in.Statement.{statement}
@@ -24,7 +24,7 @@ returns : tie.Need-returns
 returns c = refused-writes _ 2 (path-2 (c .before .before .before .before .before .before .args .root .now) (c .before .before .before .before .before .before .args .path .now) (length (c .before .before .before .before .before .before .args .code .now)) (rw (← c .before .before .before .before .before .before .pre) (axes-dimension (c .before .before .before .before .before .before .args .dim))) (subst (λ (n : ℕ). greatestDepth n < length (c .before .before .before .before .before .before .args .path .now)) (c .before .before .before .before .before .before .pre) (omega (arith, c .before .before .greatest-depth .ensures, c .before .if1 .taken)))) (omega arith) (c .refused .ensures .0) (c .refused .ensures .1)
 
 is-root-requires : tie.Need-is-root-requires
-is-root-requires c κs = rw (← c .before .before .before .before .before .pre) (omega (arith, axes-range (c .before .before .before .before .before .args .dim) .few))
+is-root-requires c κs = rw (← c .before .before .before .before .before .pre) (omega (arith, axes-range (c .before .before .before .before .before .args .dim) .two), axes-range (c .before .before .before .before .before .args .dim) .few)
 
 refused-requires-2 : tie.Need-refused-requires-2
 refused-requires-2 c κs = search needs

@@ -5,7 +5,7 @@ use Prim.Native.Nat.{ℕ, suc, _+_, _-_, _%_, _≤_, _<_}
 use lib.ListN.{length, getD, take, drop, length-set}
 use native.Mathlib.Omega.{arith}
 use Rattle.dimension.specs.Known.{KnownIs}
-use Rattle.codes.specs.Relatives.{refused-writes}
+use Rattle.codes.specs.ChildAnswers.{refused-writes}
 use Rattle.codes.specs.PathAnswers.{path-1}
 use borrow.Author.Needs.{needs}
 use Rattle.codes.proofs.path_to_code.Statement.{statement}

@@ -3,7 +3,8 @@ use mathlib.Core.Path.{sym, _∙_}
 use native.Mathlib.Omega.{arith}
 use Rattle.bisection.specs.Codes.{dimensionOf}
 use Rattle.bisection.specs.Theorems.Checked.{good}
-use Rattle.codes.specs.Drawing.{code-room, code-dimension, points-few, vertices-code, vertices-short, vertices-ready, vertices-done}
+use Rattle.corners.specs.Drawing.{code-room, code-dimension}
+use Rattle.codes.specs.CellAnswers.{points-few, vertices-code, vertices-short, vertices-ready, vertices-done}
 use borrow.Author.Needs.{needs}
 use Rattle.codes.proofs.vertices.Statement.{statement}
 use Rattle.codes.proofs.vertices.Tie as tie

@@ -3,7 +3,7 @@ use mathlib.Core.Path.{refl, sym, _∙_}
 use native.Mathlib.Omega.{arith}
 use mathlib.Core.Logic.{⊎-elim}
 use Rattle.bisection.specs.Codes.{dimensionOf, depthOf}
-use Rattle.codes.specs.Relatives.{checked, checked-two}
+use Rattle.entries.specs.Passed.{checked, checked-two}
 use Rattle.crossing.specs.Answers.{refused-own, refused-above}
 use Rattle.crossing.specs.Leaving.{leaving-entry, leaving-low, leaving-last, leaving-first}
 use Rattle.crossing.specs.Staying.{staying, split-as}

@@ -2,8 +2,8 @@
 use mathlib.Core.Path.{refl, _∙_}
 use native.Mathlib.Omega.{arith}
 use Rattle.crossing.specs.Answers.{refused-short, given}
-use Rattle.crossing.specs.Staying.{staying-room, staying-few, staying-long, staying-facet, staying-free, staying-small, staying-movable, staying-written, staying-place}
-use Rattle.codes.specs.Copying.{whole-front}
+use Rattle.crossing.specs.Staying.{staying-room, staying-few, staying-long, staying-most, staying-facet, staying-free, staying-small, staying-movable, staying-written, staying-place}
+use Rattle.steps.specs.Copying.{whole-front}
 use borrow.Author.Needs.{needs}
 use Rattle.crossing.proofs.cross_inside.Statement.{statement}
 use Rattle.crossing.proofs.cross_inside.Tie as tie
@@ -21,7 +21,7 @@ size-requires : tie.Need-size-requires
 size-requires c κs = search needs
 
 copy-front-requires : tie.Need-copy-front-requires
-copy-front-requires c κs = (staying-long (c .before .before .before .before .before .before .pre), omega arith, c .before .before .before .if1 .left)
+copy-front-requires c κs = (staying-long (c .before .before .before .before .before .before .pre), staying-most (c .before .before .before .before .before .before .pre), omega arith, c .before .before .before .if1 .left)
 
 rearrange-requires : tie.Need-rearrange-requires
 rearrange-requires c κs = rw (c .before .before .before .copy-front .ensures ∙ whole-front (c .before .before .before .before .before .before .before .before .before .before .args .code .now) (c .before .before .before .before .before .before .before .before .before .before .args .out .now), c .before .before .before .before .before .size .ensures) (staying-movable (c .before .before .before .before .before .before .before .before .before .before .pre) (c .before .before .before .before .before .before .before .before .before .before .args .out .now))

@@ -3,8 +3,8 @@ use mathlib.Core.Path.{refl, sym, _∙_}
 use lib.ListN.{length-set}
 use native.Mathlib.Omega.{arith}
 use Rattle.crossing.specs.Answers.{refused-wall, refused-short, given}
-use Rattle.crossing.specs.Leaving.{leaving-room, leaving-long, leaving-at, leaving-few, leaving-wall, leaving-some, leaving-facet, leaving-axis, leaving-written}
-use Rattle.codes.specs.Copying.{whole-front}
+use Rattle.crossing.specs.Leaving.{leaving-room, leaving-long, leaving-most, leaving-at, leaving-few, leaving-wall, leaving-some, leaving-facet, leaving-axis, leaving-written}
+use Rattle.steps.specs.Copying.{whole-front}
 use borrow.Author.Needs.{needs}
 use Rattle.crossing.proofs.cross_outside.Statement.{statement}
 use Rattle.crossing.proofs.cross_outside.Tie as tie
@@ -37,7 +37,7 @@ negate-requires : tie.Need-negate-requires
 negate-requires c κs = leaving-axis (c .before .before .before .before .before .before .pre)
 
 copy-front-requires : tie.Need-copy-front-requires
-copy-front-requires c κs = (leaving-long (c .before .before .before .before .before .before .before .before .pre), omega arith, c .before .before .before .if2 .left)
+copy-front-requires c κs = (leaving-long (c .before .before .before .before .before .before .before .before .pre), leaving-most (c .before .before .before .before .before .before .before .before .pre), omega arith, c .before .before .before .if2 .left)
 
 add-out : tie.Need-add-out
 add-out c = omega (arith, leaving-few (c .before .before .before .before .before .before .before .before .before .before .before .pre), c .before .before .before .before .before .before .before .before .before .before .before .pre .place)

@@ -9,11 +9,6 @@ use Rattle.listing.specs.Whole.{offset-inside, good-of, listed}
 use borrow.Author.Needs.{needs}
 use Rattle.listing.proofs.list_sheet.Statement.{statement}
 use Rattle.listing.proofs.list_sheet.Tie as tie
-use Rattle.listing.proofs.list_sheet.Reads as reads
-use Rattle.listing.proofs.list_sheet.Lts as lts
-use Rattle.listing.proofs.put_good.Reads as put-good-reads
-use Rattle.listing.proofs.put_refused.Reads as put-refused-reads
-use Rattle.sheets.proofs.sheet_check.Reads as sheet-check-reads
 
 put-refused-requires : tie.Need-put-refused-requires
 put-refused-requires c κs = search needs

@@ -6,10 +6,6 @@ use Rattle.listing.specs.Whole.{first-fits, leaves-fit, last-fits, good-
 use borrow.Author.Needs.{needs}
 use Rattle.listing.proofs.put_good.Statement.{statement}
 use Rattle.listing.proofs.put_good.Tie as tie
-use Rattle.listing.proofs.put_good.Reads as reads
-use Rattle.listing.proofs.put_good.Lts as lts
-use Rattle.listing.proofs.put_leaves.Reads as put-leaves-reads
-use Rattle.listing.proofs.text.put_line.Reads as put-line-reads
 
 slice-aggregate-put-line : tie.Need-slice-aggregate-put-line
 slice-aggregate-put-line c = search needs

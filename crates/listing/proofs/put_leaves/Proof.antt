@@ -7,10 +7,6 @@ use Rattle.listing.specs.Leaves.{Listing-on, Line, on-start, on-line, on
 use borrow.Author.Needs.{needs}
 use Rattle.listing.proofs.put_leaves.Statement.{statement}
 use Rattle.listing.proofs.put_leaves.Tie as tie
-use Rattle.listing.proofs.put_leaves.Reads as reads
-use Rattle.listing.proofs.put_leaves.Lts as lts
-use Rattle.listing.proofs.text.put_leaf.Reads as put-leaf-reads
-use Rattle.sheets.proofs.record_lengths.Reads as record-lengths-reads
 
 abbrev Inv-loop : tie.InvT-loop
 Inv-loop out₀ from sheet records at₀ offset₀ number₀ out at offset number = Listing-on sheet records from out₀ at offset number out

@@ -4,10 +4,6 @@ use Rattle.listing.specs.Lines.{refused-short, refused-fits}
 use borrow.Author.Needs.{needs}
 use Rattle.listing.proofs.put_refused.Statement.{statement}
 use Rattle.listing.proofs.put_refused.Tie as tie
-use Rattle.listing.proofs.put_refused.Reads as reads
-use Rattle.listing.proofs.put_refused.Lts as lts
-use Rattle.listing.proofs.text.put.Reads as put-reads
-use Rattle.listing.proofs.text.put_decimal.Reads as put-decimal-reads
 
 slice-aggregate-put : tie.Need-slice-aggregate-put
 slice-aggregate-put c = search needs

@@ -6,7 +6,7 @@ use native.Mathlib.Numerals.{add-one}
 use lib.ListN.{length, getD}
 use Rattle.dimension.specs.Sizes.{greatestDepth}
 use Rattle.bisection.specs.Codes.{dimensionOf, depthOf}
-use Rattle.codes.specs.Relatives.{checked, checked-two}
+use Rattle.entries.specs.Passed.{checked, checked-two}
 use Rattle.positions.specs.Places.{few, place-copy, place-deep, place-small, place-ready, place-room, place-is}
 use borrow.Author.Needs.{needs}
 use Rattle.positions.proofs.position_in.Statement.{statement}

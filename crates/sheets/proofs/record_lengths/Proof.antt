@@ -7,10 +7,6 @@ use Rattle.sheets.specs.Lengths.{lengths-four, lengths-room, lengths-are
 use borrow.Author.Needs.{needs}
 use Rattle.sheets.proofs.record_lengths.Statement.{statement}
 use Rattle.sheets.proofs.record_lengths.Tie as tie
-use Rattle.sheets.proofs.record_lengths.Reads as reads
-use Rattle.sheets.proofs.record_lengths.Lts as lts
-use Rattle.codes.proofs.code_head.Reads as code-head-reads
-use Rattle.codes.proofs.entries.size.Reads as size-reads
 
 shared-slice-read-dimension : tie.Need-shared-slice-read-dimension
 shared-slice-read-dimension c = omega (arith, lengths-four _ (c .before .before .pre))

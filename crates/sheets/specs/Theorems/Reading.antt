@@ -18,7 +18,7 @@ use Rattle.bisection.specs.Refusals.{done, refusedDimension, refusedDepth, refu
 use Rattle.bisection.specs.Theorems.Checked.{then-done, done-then, need-done, done-need, both, and-both}
 use Rattle.bisection.specs.Theorems.CodePaths.{code-passes, dimension-of-code, depth-of-code}
 use Rattle.codes.specs.Heads.{BodyReady}
-use Rattle.codes.specs.Relatives.{Checked, checked}
+use Rattle.entries.specs.Passed.{Checked, checked}
 use Rattle.codes.specs.PathAnswers.{code-of-length}
 use Rattle.sheets.specs.Sheets.{refusedRecord, beginsWith, behindMark, codeIn, bodyLength, recordLength, unmarkedRefusal, recordRefusal}
 

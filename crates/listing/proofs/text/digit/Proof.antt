@@ -8,8 +8,6 @@ use Rattle.listing.specs.Texts.{digit}
 use borrow.Author.Needs.{needs}
 use Rattle.listing.proofs.text.digit.Statement.{statement}
 use Rattle.listing.proofs.text.digit.Tie as tie
-use Rattle.listing.proofs.text.digit.Reads as reads
-use Rattle.listing.proofs.text.digit.Lts as lts
 
 add-result : tie.Need-add-result
 add-result c = search needs

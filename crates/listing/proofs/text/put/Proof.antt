@@ -7,9 +7,6 @@ use Rattle.listing.specs.Putting.{put-copy}
 use borrow.Author.Needs.{needs}
 use Rattle.listing.proofs.text.put.Statement.{statement}
 use Rattle.listing.proofs.text.put.Tie as tie
-use Rattle.listing.proofs.text.put.Reads as reads
-use Rattle.listing.proofs.text.put.Lts as lts
-use Rattle.codes.proofs.buffers.copy.Reads as copy-reads
 
 copy-requires : tie.Need-copy-requires
 copy-requires c κs = search needs

@@ -9,10 +9,6 @@ use Rattle.listing.specs.Putting.{Puts}
 use borrow.Author.Needs.{needs}
 use Rattle.listing.proofs.text.put_decimal.Statement.{statement}
 use Rattle.listing.proofs.text.put_decimal.Tie as tie
-use Rattle.listing.proofs.text.put_decimal.Reads as reads
-use Rattle.listing.proofs.text.put_decimal.Lts as lts
-use Rattle.io.proofs.decimal.Reads as decimal-reads
-use Rattle.listing.proofs.text.put.Reads as put-reads
 
 decimal-requires : tie.Need-decimal-requires
 decimal-requires c κs = search needs

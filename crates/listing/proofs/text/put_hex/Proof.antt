@@ -7,9 +7,6 @@ use Rattle.listing.specs.Digits.{Hexing, hexing-start, hexing-room, hexi
 use borrow.Author.Needs.{needs}
 use Rattle.listing.proofs.text.put_hex.Statement.{statement}
 use Rattle.listing.proofs.text.put_hex.Tie as tie
-use Rattle.listing.proofs.text.put_hex.Reads as reads
-use Rattle.listing.proofs.text.put_hex.Lts as lts
-use Rattle.listing.proofs.text.digit.Reads as digit-reads
 
 abbrev Inv-loop : tie.InvT-loop
 Inv-loop out₀ at bytes to₀ i₀ out to i = Hexing at bytes out₀ to i out

@@ -3,11 +3,6 @@ use Rattle.listing.specs.Lines.{leaf-fits}
 use borrow.Author.Needs.{needs}
 use Rattle.listing.proofs.text.put_leaf.Statement.{statement}
 use Rattle.listing.proofs.text.put_leaf.Tie as tie
-use Rattle.listing.proofs.text.put_leaf.Reads as reads
-use Rattle.listing.proofs.text.put_leaf.Lts as lts
-use Rattle.listing.proofs.text.put.Reads as put-reads
-use Rattle.listing.proofs.text.put_decimal.Reads as put-decimal-reads
-use Rattle.listing.proofs.text.put_hex.Reads as put-hex-reads
 
 put-decimal-requires : tie.Need-put-decimal-requires
 put-decimal-requires c κs = leaf-fits (c .before .before .before .args .at) (c .before .before .before .args .number) (c .before .before .before .args .code .now) (c .before .before .before .args .out .now) (c .before .before .before .pre) .first

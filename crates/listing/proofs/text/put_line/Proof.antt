@@ -8,10 +8,6 @@ use Rattle.listing.specs.Lines.{number-fits}
 use borrow.Author.Needs.{needs}
 use Rattle.listing.proofs.text.put_line.Statement.{statement}
 use Rattle.listing.proofs.text.put_line.Tie as tie
-use Rattle.listing.proofs.text.put_line.Reads as reads
-use Rattle.listing.proofs.text.put_line.Lts as lts
-use Rattle.listing.proofs.text.put.Reads as put-reads
-use Rattle.listing.proofs.text.put_decimal.Reads as put-decimal-reads
 
 put-requires : tie.Need-put-requires
 put-requires c κs = number-fits (c .before .before .before .args .at) (c .before .before .before .args .word .now) (c .before .before .before .args .n) (c .before .before .before .args .out .now) (c .before .before .before .pre) .first

@@ -1,0 +1,51 @@
+-- `line_of` meets its contract: each field is what the code's bytes give.
+use native.Mathlib.Omega.{arith}
+use Rattle.corners.specs.Drawing.{line-room, line-low-ready, line-depth, line-made}
+use borrow.Author.Needs.{needs}
+use Rattle.corners.proofs.line_of.Statement.{statement}
+use Rattle.corners.proofs.line_of.Tie as tie
+
+add-e : tie.Need-add-e
+add-e c = let s = c .before in omega (arith, line-room (s .pre), s .good)
+
+shared-slice-read-e : tie.Need-shared-slice-read-e
+shared-slice-read-e c = line-room (c .before .before .pre)
+
+shared-slice-read-size : tie.Need-shared-slice-read-size
+shared-slice-read-size c = omega (arith, line-room (c .before .before .before .pre))
+
+size-requires : tie.Need-size-requires
+size-requires c κs = search needs
+
+axis-of-requires : tie.Need-axis-of-requires
+axis-of-requires c κs = search needs
+
+low-side-requires : tie.Need-low-side-requires
+low-side-requires c κs = line-low-ready (c .before .before .before .before .before .pre) _ (c .axis-of .ensures)
+
+box-side-requires : tie.Need-box-side-requires
+box-side-requires c κs = line-depth (c .before .before .before .before .before .before .pre) _ (c .before .before .size .ensures)
+
+is-minus-requires : tie.Need-is-minus-requires
+is-minus-requires c κs = search needs
+
+split-place-requires : tie.Need-split-place-requires
+split-place-requires c κs = search needs
+
+returns : tie.Need-returns
+returns c = line-made (c .before .before .before .before .before .before .before .before .before .pre) _ _ (c .before .before .before .before .axis-of .ensures) (c .before .before .before .before .before .size .ensures) _ _ _ _ (c .before .before .before .low-side .ensures) (c .before .before .box-side .ensures) (c .before .is-minus .ensures) (c .split-place .ensures)
+
+pub line-of-spec : {M : Type 1} → statement M
+line-of-spec =
+    tie.close
+    (tie.spec
+    add-e
+    shared-slice-read-e
+    shared-slice-read-size
+    size-requires
+    axis-of-requires
+    low-side-requires
+    box-side-requires
+    is-minus-requires
+    split-place-requires
+    returns)

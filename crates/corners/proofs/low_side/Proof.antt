@@ -1,0 +1,75 @@
+-- `low_side` meets its contract. The loop keeps: what the orthants so far add, with what the rest adds, is the low side.
+use Prim.Native.Nat.{_-_, _≤_}
+use lib.ListN.{length, drop}
+use native.Mathlib.Omega.{arith}
+use Rattle.dimension.specs.Sizes.{axesOf}
+use Rattle.dimension.specs.Laws.{axes-range}
+use Rattle.corners.specs.Lines.{LowSoFar, low-none, low-room, low-high, low-plain, low-all}
+use borrow.Author.Needs.{needs}
+use Rattle.corners.proofs.low_side.Statement.{statement}
+use Rattle.corners.proofs.low_side.Tie as tie
+
+abbrev Inv-loop : tie.InvT-loop
+Inv-loop code axis low₀ side₀ i₀ low side i = (i ≤ length code) × LowSoFar axis (drop i₀ code) (drop i code) low side
+
+abbrev μ-loop : tie.MeasureT-loop
+μ-loop code axis low₀ side₀ i₀ low side i = length code - i
+
+box-side-requires : tie.Need-box-side-requires Inv-loop μ-loop
+box-side-requires c κs = omega arith
+
+axes-requires : tie.Need-axes-requires Inv-loop μ-loop
+axes-requires c κs = search needs
+
+add-i : tie.Need-add-i Inv-loop μ-loop
+add-i c = let s = c .before .before .before in omega (arith, c .axes .ensures, s .pre .2, s .good)
+
+loop-holds : tie.Need-loop-holds Inv-loop μ-loop
+loop-holds c = let s = c .before .before .before in (omega (arith, c .axes .ensures, s .pre .2), low-none _ _ (axesOf (s .args .dim)) (omega (arith, axes-range (s .args .dim) .two)) _ (c .before .box-side .ensures))
+
+shared-slice-read-is-high : tie.Need-shared-slice-read-is-high Inv-loop μ-loop
+shared-slice-read-is-high c = search needs
+
+is-high-requires : tie.Need-is-high-requires Inv-loop μ-loop
+is-high-requires c κs = let s = c .before .before .before .before .before .before in (s .pre .0, s .pre .1)
+
+add-i-2 : tie.Need-add-i-2 Inv-loop μ-loop
+add-i-2 c = search needs
+
+add-low : tie.Need-add-low Inv-loop μ-loop
+add-low c = record { fits = low-room (c .before .before .before .before .before .before .before .before .args .code .now) (c .before .before .before .before .loop .i) (c .before .before .before .loop-test .taken) (c .before .before .before .before .loop .inv .1) }
+
+loop-less : tie.Need-loop-less Inv-loop μ-loop
+loop-less c = search needs
+
+loop-again : tie.Need-loop-again Inv-loop μ-loop
+loop-again c = (omega arith, low-high (c .before .before .before .before .before .before .before .before .args .code .now) (c .before .before .before .before .loop .i) (c .before .before .before .loop-test .taken) (c .before .before .before .before .loop .inv .1) _ (c .before .is-high .ensures) (c .if1 .taken))
+
+loop-less-2 : tie.Need-loop-less-2 Inv-loop μ-loop
+loop-less-2 c = search needs
+
+loop-again-2 : tie.Need-loop-again-2 Inv-loop μ-loop
+loop-again-2 c = (omega arith, low-plain (c .before .before .before .before .before .before .before .before .args .code .now) (c .before .before .before .before .loop .i) (c .before .before .before .loop-test .taken) (c .before .before .before .before .loop .inv .1) _ (c .before .is-high .ensures) (c .if1 .left))
+
+returns : tie.Need-returns Inv-loop μ-loop
+returns c = rw (← c .before .before .axes .ensures) (low-all (c .before .before .before .before .before .args .code .now) (c .before .loop .i) (c .loop-test .left) (c .before .loop .inv .1))
+
+pub low-side-spec : {M : Type 1} → statement M
+low-side-spec =
+    tie.close
+    (tie.spec
+    Inv-loop
+    μ-loop
+    box-side-requires
+    axes-requires
+    add-i
+    loop-holds
+    shared-slice-read-is-high
+    is-high-requires
+    add-i-2
+    add-low
+    loop-less
+    loop-again
+    loop-less-2
+    loop-again-2
+    returns)

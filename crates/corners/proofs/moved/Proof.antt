@@ -1,0 +1,21 @@
+-- `moved` meets its contract: the sum is that of whole numbers, since the step leads to a number of two bytes.
+use native.Mathlib.Omega.{arith}
+use Rattle.corners.specs.Lines.{moved-fits, moved-casts, moved-value}
+use borrow.Author.Needs.{needs}
+use Rattle.corners.proofs.moved.Statement.{statement}
+use Rattle.corners.proofs.moved.Tie as tie
+
+cast-y : tie.Need-cast-y
+cast-y c = search needs
+
+add-y : tie.Need-add-y
+add-y c = moved-fits (c .args .x) (c .args .step) (omega arith) (c .fits .step) (c .pre)
+
+cast-result : tie.Need-cast-result
+cast-result c = moved-casts (c .args .x) (c .args .step) (omega arith) (c .fits .step) (c .pre)
+
+returns : tie.Need-returns
+returns c = moved-value (c .args .x) (c .args .step) (omega arith) (c .fits .step) (c .pre)
+
+pub moved-spec : {M : Type 1} → statement M
+moved-spec = tie.close (tie.spec cast-y add-y cast-result returns)

@@ -1,0 +1,21 @@
+-- `step_of` meets its contract: a side of two bytes and its negation fit an i32.
+use native.Mathlib.Omega.{arith}
+use Rattle.corners.specs.Lines.{step-down-fits, step-down, step-up}
+use borrow.Author.Needs.{needs}
+use Rattle.corners.proofs.step_of.Statement.{statement}
+use Rattle.corners.proofs.step_of.Tie as tie
+
+cast-s : tie.Need-cast-s
+cast-s c = search needs
+
+sub-result : tie.Need-sub-result
+sub-result c = step-down-fits (c .before .args .side) (omega arith)
+
+returns : tie.Need-returns
+returns c = step-down (c .before .args .side) (omega arith) (c .before .args .minus) (c .if1 .taken)
+
+returns-2 : tie.Need-returns-2
+returns-2 c = step-up (c .before .args .side) (omega arith) (c .before .args .minus) (c .if1 .left)
+
+pub step-of-spec : {M : Type 1} → statement M
+step-of-spec = tie.close (tie.spec cast-s sub-result returns returns-2)

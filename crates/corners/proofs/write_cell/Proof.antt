@@ -1,0 +1,92 @@
+-- `write_cell` meets its contract. The loop keeps: the columns of the first i entries are written, and nothing else.
+use mathlib.Core.Path.{_∙_}
+use Prim.Native.Nat.{_-_, _≤_}
+use native.Mathlib.Omega.{arith}
+use Rattle.bisection.specs.Codes.{dimensionOf, entriesOf}
+use Rattle.bisection.specs.Theorems.Checked.{good}
+use Rattle.corners.specs.Points.{Columns, columns-none}
+use Rattle.corners.specs.Drawing.{drawnAt, code-room, code-dimension, column-ready, cell-next, cell-all}
+use borrow.Author.Needs.{needs}
+use Rattle.corners.proofs.write_cell.Statement.{statement}
+use Rattle.corners.proofs.write_cell.Tie as tie
+
+abbrev Inv-loop : tie.InvT-loop
+Inv-loop code points₀ dim d i₀ points i = (i ≤ d) × Columns (dimensionOf code) (entriesOf code) (drawnAt code) i points₀ points
+
+abbrev μ-loop : tie.MeasureT-loop
+μ-loop code points₀ dim d i₀ points i = d - i
+
+shared-slice-read-checked : tie.Need-shared-slice-read-checked Inv-loop μ-loop
+shared-slice-read-checked c = let s = c .before .before .before in omega (arith, code-room (s .args .code .now) (s .pre .passing))
+
+checked-requires : tie.Need-checked-requires Inv-loop μ-loop
+unfolding dimensionOf
+checked-requires c κs = let s = c .before .before .before in good (s .args .code .now) (s .pre .passing) .dimension
+
+axes-requires : tie.Need-axes-requires Inv-loop μ-loop
+axes-requires c κs = search needs
+
+loop-holds : tie.Need-loop-holds Inv-loop μ-loop
+loop-holds c = (omega arith, columns-none _ _ _ _)
+
+add-axis-of : tie.Need-add-axis-of Inv-loop μ-loop
+unfolding dimensionOf
+add-axis-of c = let s = c .before .before .before .before .before .before .before in omega (arith, c .before .before .axes .ensures ∙ c .before .before .before .checked .ensures, code-dimension (s .args .code .now) (s .pre .passing) .few)
+
+shared-slice-read-axis-of : tie.Need-shared-slice-read-axis-of Inv-loop μ-loop
+unfolding dimensionOf
+shared-slice-read-axis-of c = let s = c .before .before .before .before .before .before .before .before in omega (arith, c .before .before .before .axes .ensures ∙ c .before .before .before .before .checked .ensures, code-room (s .args .code .now) (s .pre .passing))
+
+axis-of-requires : tie.Need-axis-of-requires Inv-loop μ-loop
+axis-of-requires c κs = search needs
+
+size-requires : tie.Need-size-requires Inv-loop μ-loop
+size-requires c κs = search needs
+
+line-of-requires : tie.Need-line-of-requires Inv-loop μ-loop
+unfolding dimensionOf
+line-of-requires c κs = record { passing = c .before .before .before .before .before .before .before .before .before .before .before .pre .passing; dimension = c .before .before .before .before .before .before .before .checked .ensures; below = omega (arith, c .before .before .before .before .before .before .axes .ensures ∙ c .before .before .before .before .before .before .before .checked .ensures, c .before .before .before .before .loop-test .taken) }
+
+column-requires : tie.Need-column-requires Inv-loop μ-loop
+unfolding dimensionOf
+column-requires c κs = let s = c .before .before .before .before .before .before .before .before .before .before .before .before in column-ready (s .args .code .now) (s .pre .passing) _ (c .before .before .before .before .before .before .before .axes .ensures ∙ c .before .before .before .before .before .before .before .before .checked .ensures) (c .before .before .before .before .before .before .loop .i) (c .before .before .before .before .before .loop-test .taken) _ (c .before .before .size .ensures ∙ c .before .before .before .axis-of .ensures) (c .line-of .ensures) _ (omega (arith, s .pre .space, c .before .before .before .before .before .before .loop .inv .1 .size))
+
+add-i : tie.Need-add-i Inv-loop μ-loop
+unfolding dimensionOf
+add-i c = let s = c .before .before .before .before .before .before .before .before .before .before .before .before .before .before .before in omega (arith, c .before .before .before .before .before .before .before .before .before .before .axes .ensures ∙ c .before .before .before .before .before .before .before .before .before .before .before .checked .ensures, code-dimension (s .args .code .now) (s .pre .passing) .few)
+
+loop-less : tie.Need-loop-less Inv-loop μ-loop
+loop-less c = search needs
+
+loop-again : tie.Need-loop-again Inv-loop μ-loop
+unfolding dimensionOf
+loop-again c = let s = c .before .before .before .before .before .before .before .before .before .before .before .before .before .before .before in (omega (arith, c .before .before .before .before .before .before .before .before .loop-test .taken), cell-next (s .args .code .now) (s .pre .passing) _ (c .before .before .before .before .before .before .before .before .before .before .axes .ensures ∙ c .before .before .before .before .before .before .before .before .before .before .before .checked .ensures) (c .before .before .before .before .before .before .before .before .before .loop .i) (c .before .before .before .before .before .before .before .before .loop-test .taken) _ (c .before .before .before .before .before .size .ensures ∙ c .before .before .before .before .before .before .axis-of .ensures) (c .before .before .before .line-of .ensures) (c .before .before .before .before .before .before .before .before .before .loop .inv .1) (c .before .before .column .ensures))
+
+same-length : tie.Need-same-length Inv-loop μ-loop
+same-length c = c .before .loop .inv .1 .size
+
+returns : tie.Need-returns Inv-loop μ-loop
+unfolding dimensionOf
+returns c = let s = c .before .before .before .before .before .before .before in cell-all (s .args .code .now) (s .pre .passing) _ (c .before .before .axes .ensures ∙ c .before .before .before .checked .ensures) (s .pre .space) (c .before .loop .i) (c .before .loop .inv .0) (c .loop-test .left) (c .before .loop .inv .1)
+
+pub write-cell-spec : {M : Type 1} → statement M
+write-cell-spec =
+    tie.close
+    (tie.spec
+    Inv-loop
+    μ-loop
+    shared-slice-read-checked
+    checked-requires
+    axes-requires
+    loop-holds
+    add-axis-of
+    shared-slice-read-axis-of
+    axis-of-requires
+    size-requires
+    line-of-requires
+    column-requires
+    add-i
+    loop-less
+    loop-again
+    same-length
+    returns)

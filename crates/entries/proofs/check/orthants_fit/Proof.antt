@@ -1,0 +1,81 @@
+-- `orthants_fit` meets its contract. The loop keeps: what is or-ed so far fits just where the bytes before i do.
+use mathlib.Core.Path.{_≡_, sym, ap, _∙_}
+use Prim.Native.Nat.{ℕ, _+_, _-_, _≤_, _<_}
+use lib.ListN.{length, getD, drop, length-drop}
+use native.Mathlib.Omega.{arith}
+use Rattle.dimension.specs.Sizes.{halvings}
+use Rattle.entries.specs.Walks.{placeIn, place-within, Fitting, fitting-none, fitting-next, fitting-all, fitting-empty, at-place}
+use borrow.Author.Needs.{needs}
+use Rattle.entries.proofs.check.orthants_fit.Statement.{statement}
+use Rattle.entries.proofs.check.orthants_fit.Tie as tie
+
+abbrev Inv-loop : tie.InvT-loop
+Inv-loop code d first boxes any₀ i₀ any i = Fitting d boxes (drop (2 + d) code) i any
+
+abbrev μ-loop : tie.MeasureT-loop
+μ-loop code d first boxes any₀ i₀ any i = halvings - i
+
+add-first : tie.Need-add-first Inv-loop μ-loop
+add-first c = omega (arith, c .before .pre .0)
+
+sub-boxes : tie.Need-sub-boxes Inv-loop μ-loop
+sub-boxes c = c .before .pre .1
+
+returns : tie.Need-returns Inv-loop μ-loop
+returns c = fitting-empty (c .before .before .args .d) (drop (2 + c .before .before .args .d) (c .before .before .args .code .now)) (length-drop (2 + c .before .before .args .d) (c .before .before .args .code .now) ∙ c .if1 .taken)
+
+loop-holds : tie.Need-loop-holds Inv-loop μ-loop
+loop-holds c = fitting-none _ _ _
+
+place-in-requires : tie.Need-place-in-requires Inv-loop μ-loop
+place-in-requires c κs = search needs
+
+add-any : tie.Need-add-any Inv-loop μ-loop
+add-any c = let n : ℕ = length (c .before .before .before .before .before .args .code .now) - (2 + c .before .before .before .before .before .args .d) in omega (arith, c .place-in .ensures, place-within (c .before .before .loop .i) n (omega (arith, c .before .before .before .if1 .left)), c .before .before .before .before .before .pre .0, c .before .before .before .before .before .pre .2)
+
+shared-slice-read-any : tie.Need-shared-slice-read-any Inv-loop μ-loop
+shared-slice-read-any c = let n : ℕ = length (c .before .before .before .before .before .before .args .code .now) - (2 + c .before .before .before .before .before .before .args .d) in omega (arith, c .before .place-in .ensures, place-within (c .before .before .before .loop .i) n (omega (arith, c .before .before .before .before .if1 .left)))
+
+add-i : tie.Need-add-i Inv-loop μ-loop
+add-i c = search needs
+
+loop-less : tie.Need-loop-less Inv-loop μ-loop
+unfolding halvings
+loop-less c = omega (arith, c .before .before .loop-test .taken)
+
+loop-again : tie.Need-loop-again Inv-loop μ-loop
+loop-again c =
+    let code = c .before .before .before .before .before .before .args .code .now in
+    let d = c .before .before .before .before .before .before .args .d in
+    fitting-next (c .before .before .before .loop .inv) (omega (arith, c .before .before .before .before .if1 .left)) _
+        (at-place code (2 + d) (c .before .place-in .result) ∙ ap (λ (x : ℕ). getD (drop (2 + d) code) x 0) (c .before .place-in .ensures))
+
+cast-result : tie.Need-cast-result Inv-loop μ-loop
+cast-result c = omega (arith, c .before .before .before .before .pre .0)
+
+shr-result : tie.Need-shr-result Inv-loop μ-loop
+shr-result c = c .before .before .before .before .pre .0
+
+returns-2 : tie.Need-returns-2 Inv-loop μ-loop
+unfolding halvings
+returns-2 c = fitting-all (c .before .loop .inv) (sym (length-drop (2 + c .before .before .before .before .args .d) (c .before .before .before .before .args .code .now))) (omega (arith, c .loop-test .left, c .before .before .before .before .pre .2))
+
+pub orthants-fit-spec : {M : Type 1} → statement M
+orthants-fit-spec =
+    tie.close
+    (tie.spec
+    Inv-loop
+    μ-loop
+    add-first
+    sub-boxes
+    returns
+    loop-holds
+    place-in-requires
+    add-any
+    shared-slice-read-any
+    add-i
+    loop-less
+    loop-again
+    cast-result
+    shr-result
+    returns-2)

@@ -1,0 +1,81 @@
+-- `permuted` meets its contract. The loop keeps: the entries before i are marked, and what is marked stands among the d.
+use mathlib.Core.Path.{_≡_, sym, ap, _∙_}
+use Prim.Native.Nat.{ℕ, _+_, _-_, _≤_, _<_}
+use lib.ListN.{length, getD, take, drop}
+use native.Mathlib.Omega.{arith}
+use lib.Bits.{bitOr}
+use lib.Pow.{pow-pos}
+use Rattle.entries.specs.Masks.{markOf, shifted-bit}
+use Rattle.entries.specs.Walks.{placeIn, place-within, entry-at}
+use Rattle.entries.specs.Marks.{Marked, marked-none, marked-next, permuted-at}
+use borrow.Author.Needs.{needs}
+use Rattle.entries.proofs.check.permuted.Statement.{statement}
+use Rattle.entries.proofs.check.permuted.Tie as tie
+
+abbrev Inv-loop : tie.InvT-loop
+Inv-loop s at d seen₀ i₀ seen i = Marked d (take d (drop at s)) i seen
+
+abbrev μ-loop : tie.MeasureT-loop
+μ-loop s at d seen₀ i₀ seen i = 4 - i
+
+loop-holds : tie.Need-loop-holds Inv-loop μ-loop
+loop-holds c = marked-none _ _
+
+place-in-requires : tie.Need-place-in-requires Inv-loop μ-loop
+place-in-requires c κs = search needs
+
+add-mark-of : tie.Need-add-mark-of Inv-loop μ-loop
+add-mark-of c = omega (arith, c .place-in .ensures, place-within (c .before .before .loop .i) (c .before .before .before .before .args .d) (c .before .before .before .before .pre .0), c .before .before .before .before .pre .2)
+
+shared-slice-read-mark-of : tie.Need-shared-slice-read-mark-of Inv-loop μ-loop
+shared-slice-read-mark-of c = omega (arith, c .before .place-in .ensures, place-within (c .before .before .before .loop .i) (c .before .before .before .before .before .args .d) (c .before .before .before .before .before .pre .0), c .before .before .before .before .before .pre .2)
+
+mark-of-requires : tie.Need-mark-of-requires Inv-loop μ-loop
+mark-of-requires c κs = search needs
+
+add-i : tie.Need-add-i Inv-loop μ-loop
+add-i c = search needs
+
+loop-less : tie.Need-loop-less Inv-loop μ-loop
+loop-less c = omega (arith, c .before .before .before .loop-test .taken)
+
+loop-again : tie.Need-loop-again Inv-loop μ-loop
+loop-again c =
+    let s = c .before .before .before .before .before .before .args .s .now in
+    let at = c .before .before .before .before .before .before .args .at in
+    let d = c .before .before .before .before .before .before .args .d in
+    let j = c .before .before .place-in .result in
+    let l : j < d = omega (arith, c .before .before .place-in .ensures, place-within (c .before .before .before .before .loop .i) d (c .before .before .before .before .before .before .pre .0)) in
+    rw (c .mark-of .ensures) (marked-next (c .before .before .before .before .loop .inv) (c .before .before .before .before .before .before .pre .0) _
+        (entry-at s at d j l ∙ ap (λ (x : ℕ). getD (take d (drop at s)) x 0) (c .before .before .place-in .ensures)))
+
+cast-result : tie.Need-cast-result Inv-loop μ-loop
+cast-result c = omega (arith, c .before .before .before .pre .1)
+
+shl-result : tie.Need-shl-result Inv-loop μ-loop
+shl-result c = omega (arith, c .before .before .before .pre .1)
+
+sub-result : tie.Need-sub-result Inv-loop μ-loop
+sub-result c = rw (shifted-bit (c .before .before .before .args .d) (omega (arith, c .before .before .before .pre .1))) (pow-pos (c .before .before .before .args .d))
+
+returns : tie.Need-returns Inv-loop μ-loop
+returns c = permuted-at (c .before .before .before .args .s .now) (c .before .before .before .args .at) (c .before .before .before .args .d) (c .before .loop .i) (c .before .loop .seen) (c .before .before .before .pre .2) (c .before .before .before .pre .1) (omega (arith, c .loop-test .left, c .before .before .before .pre .1)) (c .before .loop .inv)
+
+pub permuted-spec : {M : Type 1} → statement M
+permuted-spec =
+    tie.close
+    (tie.spec
+    Inv-loop
+    μ-loop
+    loop-holds
+    place-in-requires
+    add-mark-of
+    shared-slice-read-mark-of
+    mark-of-requires
+    add-i
+    loop-less
+    loop-again
+    cast-result
+    shl-result
+    sub-result
+    returns)

@@ -1,0 +1,27 @@
+-- `same_sign` meets its contract: a minus agrees with high, a plus with low.
+use mathlib.Core.Path.{sym, ap, _∙_}
+use mathlib.Core.Bool.{not}
+use Rattle.bisection.specs.Codes.{high}
+use Rattle.entries.specs.Walks.{same-minus, same-plus}
+use borrow.Author.Needs.{needs}
+use Rattle.entries.proofs.check.same_sign.Statement.{statement}
+use Rattle.entries.proofs.check.same_sign.Tie as tie
+
+axis-of-requires : tie.Need-axis-of-requires
+axis-of-requires c κs = search needs
+
+is-high-requires : tie.Need-is-high-requires
+is-high-requires c κs = (rw (c .axis-of .ensures) (c .before .pre .0), rw (c .axis-of .ensures) (c .before .pre .1))
+
+is-minus-requires : tie.Need-is-minus-requires
+is-minus-requires c κs = search needs
+
+returns : tie.Need-returns
+returns c = (c .before .before .is-high .ensures ∙ ap (high (c .before .before .before .before .args .own)) (c .before .before .before .axis-of .ensures)) ∙ same-minus _ _ (sym (c .before .is-minus .ensures) ∙ c .if1 .taken)
+
+returns-2 : tie.Need-returns-2
+returns-2 c = ap not (c .before .before .is-high .ensures ∙ ap (high (c .before .before .before .before .args .own)) (c .before .before .before .axis-of .ensures)) ∙ same-plus _ _ (sym (c .before .is-minus .ensures) ∙ c .if1 .left)
+
+pub same-sign-spec : {M : Type 1} → statement M
+same-sign-spec =
+    tie.close (tie.spec axis-of-requires is-high-requires is-minus-requires returns returns-2)

@@ -1,0 +1,9 @@
+-- Signed entries, orthant bytes, and the tests of a code's body. All of it is checked, none is believed.
+-- Signed entries as numbers, and the bits of masks.
+pub mod Signs
+pub mod Masks
+-- The walks that test a code; the permutation by its marks.
+pub mod Walks
+pub mod Marks
+-- What a check that passes tells.
+pub mod Passed

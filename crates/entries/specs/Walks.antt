@@ -1,0 +1,247 @@
+-- What the walks over a code's bytes find, and one law for each way out of them.
+use mathlib.Core.Path.{_≡_, refl, sym, ap, _∙_, subst}
+use mathlib.Core.Bool.{Bool, true, false, cond, not, _&&_}
+use mathlib.Core.List.{List}
+use Prim.Native.Nat.{ℕ, zero, suc, _+_, _-_, _*_, _/_, _^_, _≤_, _<_}
+use native.Mathlib.Omega.{arith}
+use native.Mathlib.Numerals.{add-one}
+use native.Mathlib.Nat.{div-eq-of-lt, div-add-mod', mod-lt}
+use native.Mathlib.Decide.{decLt}
+use lib.Dec.{T, eqb, leb, ltb}
+use lib.Bits.{bitOr, or-lt, or-add-and, and-le-l, and-le-r}
+use lib.ListN.{length, getD, take, drop, length-drop, drop-of-length-le}
+use lib.Pow.{pow-pos}
+use lib.Seq.{getD-drop, getD-take}
+use borrow.Author.Tests.{lt-ltb, le-ltb, lt-leb, le-leb, eq-eqb, ne-eqb, ltb-true}
+use Rattle.bisection.specs.Codes.{axis, minus, high}
+use Rattle.bisection.specs.Refusals.{each, fresh, permutes, orthantsFit, ownMinus, sameSign, signsOwn, isRoot, isPath}
+use Rattle.bisection.specs.Theorems.Checked.{each-at, at-each, and-both}
+
+-- tests in a row: equal tests, one more, one that fails
+pub each-same : (n : ℕ) (f g : ℕ → Bool) → ((i : ℕ) → i < n → f i ≡ g i) → each n f ≡ each n g
+unfolding each
+each-same zero f g e = refl
+each-same (suc n) f g e = rw (e n (omega arith), each-same n f g (λ i l. e i (omega arith))) refl
+
+pub each-more : (n : ℕ) (f : ℕ → Bool) → each n f ≡ true → f n ≡ true → each (n + 1) f ≡ true
+unfolding each
+each-more n f e h = rw (add-one n) (and-both (f n) (each n f) h e)
+
+pub each-fails : (n : ℕ) (f : ℕ → Bool) (i : ℕ) → i < n → f i ≡ false → each n f ≡ false
+each-fails n f i l e = go (each n f) refl
+  where
+    go : (t : Bool) → each n f ≡ t → t ≡ false
+    go false q = refl
+    go true q = absurd (subst T (sym (each-at n f q i l) ∙ e) tt)
+
+-- the permutation: what has been seen before place i
+abbrev pub entryFits : ℕ → List ℕ → ℕ → Bool
+entryFits d es i = leb 1 (axis (getD es i 0)) && leb (axis (getD es i 0)) d && fresh es (axis (getD es i 0)) i
+
+and-false : (s : Bool) → (s && false) ≡ false
+and-false true = refl
+and-false false = refl
+
+-- only the first d entries count
+pub permutes-take : (d : ℕ) (l : List ℕ) → permutes d (take d l) ≡ permutes d l
+unfolding permutes fresh
+permutes-take d l = each-same d (entryFits d (take d l)) (entryFits d l) (λ i h. rw (getD-take d l i 0 h)
+    (ap (λ (t : Bool). leb 1 (axis (getD l i 0)) && leb (axis (getD l i 0)) d && t)
+      (each-same i (λ j. not (eqb (axis (getD (take d l) j 0)) (axis (getD l i 0)))) (λ j. not (eqb (axis (getD l j 0)) (axis (getD l i 0)))) (λ j k. rw (getD-take d l j 0 (omega arith)) refl))))
+
+-- the place of a read that takes no branch: i, or the first
+abbrev pub placeIn : ℕ → ℕ → ℕ
+placeIn i n = cond (ltb i n) i 0
+
+pub place-under : (i n : ℕ) → i < n → placeIn i n ≡ i
+place-under i n h = rw (lt-ltb i n h) refl
+
+pub place-past : (i n : ℕ) → n ≤ i → placeIn i n ≡ 0
+place-past i n h = rw (le-ltb i n h) refl
+
+pub place-within : (i n : ℕ) → 0 < n → placeIn i n < n
+place-within i n p = go (decLt i n)
+  where
+    go : Dec (i < n) → placeIn i n < n
+    go (yes h) = subst (λ (m : ℕ). m < n) (sym (place-under i n h)) h
+    go (no h) = subst (λ (m : ℕ). m < n) (sym (place-past i n (omega arith))) p
+
+pub place-no-later : (i n : ℕ) → placeIn i n ≤ n
+place-no-later i n = go (decLt i n)
+  where
+    go : Dec (i < n) → placeIn i n ≤ n
+    go (yes h) = omega (arith, place-under i n h)
+    go (no h) = omega (arith, place-past i n (omega arith))
+
+-- the orthants or-ed: those before place i of a walk that begins again past the last
+pub record Fitting (d n : ℕ) (os : List ℕ) (i any : ℕ) : Type 0 where
+  pub every : any < 2 ^ d → (j : ℕ) → j < i → j < n → getD os j 0 < 2 ^ d
+  pub fits : ((j : ℕ) → j < n → getD os j 0 < 2 ^ d) → any < 2 ^ d
+
+pub fitting-none : (d n : ℕ) (os : List ℕ) → Fitting d n os 0 0
+fitting-none d n os = record { every = λ h j l m. absurd (omega arith); fits = λ f. pow-pos d }
+
+module _ {d n : ℕ} {os : List ℕ} {i any : ℕ} (t : Fitting d n os i any) where
+  pub fitting-next : 0 < n → (o : ℕ) → o ≡ getD os (placeIn i n) 0 → Fitting d n os (i + 1) (bitOr any o)
+  fitting-next p o e = record
+    { every = λ h j l m. go h j l m (decLt j i)
+    ; fits = λ f. or-lt d any o (t .fits f) (rw e (f (placeIn i n) (place-within i n p))) }
+    where
+      over-l : any ≤ bitOr any o
+      over-l = omega (arith, or-add-and any o, and-le-r any o)
+      over-r : o ≤ bitOr any o
+      over-r = omega (arith, or-add-and any o, and-le-l any o)
+      go : bitOr any o < 2 ^ d → (j : ℕ) → j < i + 1 → j < n → Dec (j < i) → getD os j 0 < 2 ^ d
+      go h j l m (yes q) = t .every (omega (arith, over-l)) j q m
+      go h j l m (no q) = omega (arith, over-r, h, e, ap (λ (x : ℕ). getD os x 0) here)
+        where
+          here : placeIn i n ≡ j
+          here = place-under i n (omega arith) ∙ omega arith
+
+  pub fitting-all : n ≡ length os → n ≤ i → eqb (any / 2 ^ d) 0 ≡ orthantsFit d os
+  unfolding orthantsFit
+  fitting-all e h = go (decLt any (2 ^ d))
+    where
+      test : ℕ → Bool
+      test j = ltb (getD os j 0) (2 ^ d)
+      go : Dec (any < 2 ^ d) → eqb (any / 2 ^ d) 0 ≡ each (length os) test
+      go (yes l) = eq-eqb (any / 2 ^ d) 0 (div-eq-of-lt l) ∙ sym (at-each (length os) test (λ j m. lt-ltb (getD os j 0) (2 ^ d) (t .every l j (omega arith) (omega arith))))
+      go (no l) = ne-eqb (any / 2 ^ d) 0 (λ q. l (low q)) ∙ sym (none (each (length os) test) refl)
+        where
+          low : any / 2 ^ d ≡ 0 → any < 2 ^ d
+          low q = omega (arith, div-add-mod' any (2 ^ d), ap (λ (u : ℕ). u * 2 ^ d) q, mod-lt any (pow-pos d))
+          none : (t' : Bool) → each (length os) test ≡ t' → t' ≡ false
+          none false q = refl
+          none true q = absurd (l (t .fits (λ j m. ltb-true (getD os j 0) (2 ^ d) (each-at (length os) test q j (omega arith)))))
+
+pub fitting-empty : (d : ℕ) (os : List ℕ) → length os ≡ 0 → true ≡ orthantsFit d os
+unfolding orthantsFit each
+fitting-empty d os e = rw e refl
+
+-- the byte of the box's own signs
+abbrev pub ownByte : List ℕ → ℕ
+ownByte os = getD os (length os - 1) 0
+
+abbrev pub signTest : List ℕ → ℕ → ℕ → Bool
+signTest es own i = sameSign (minus (getD es i 0)) (high own (axis (getD es i 0)))
+
+unfoldable pub signsBy : ℕ → List ℕ → ℕ → Bool
+signsBy k es own = each k (signTest es own)
+
+pub signs-by : (d k : ℕ) (l os : List ℕ) → k ≤ d → signsBy k l (ownByte os) ≡ signsOwn k (take d l) os
+unfolding signsBy signsOwn ownMinus
+signs-by d k l os h = each-same k (signTest l (ownByte os)) (λ i. sameSign (minus (getD (take d l) i 0)) (high (ownByte os) (axis (getD (take d l) i 0)))) (λ i q. rw (getD-take d l i 0 (omega arith)) refl)
+
+-- the first k entries have axes that a byte has bits for
+pub record AxesWithin (k : ℕ) (code : List ℕ) : Type 0 where
+  pub low : (i : ℕ) → i < k → 1 ≤ axis (getD code (2 + i) 0)
+  pub high : (i : ℕ) → i < k → axis (getD code (2 + i) 0) ≤ 8
+
+pub record SignsSoFar (es : List ℕ) (own i : ℕ) : Type 0 where
+  pub so-far : each i (signTest es own) ≡ true
+
+pub signs-none : (es : List ℕ) (own : ℕ) → SignsSoFar es own 0
+unfolding each
+signs-none es own = record { so-far = refl }
+
+pub at-place : (l : List ℕ) (at i : ℕ) → getD l (at + i) 0 ≡ getD (drop at l) i 0
+at-place l at i = sym (getD-drop at l i 0)
+
+-- an entry of the d from a place
+pub entry-at : (l : List ℕ) (at d i : ℕ) → i < d → getD l (at + i) 0 ≡ getD (take d (drop at l)) i 0
+entry-at l at d i h = sym (getD-take d (drop at l) i 0 h ∙ getD-drop at l i 0)
+
+-- the own byte: no orthants, or the last byte of the code
+pub own-none : (l : List ℕ) (n : ℕ) → length l ≡ n → 0 ≡ ownByte (drop n l)
+own-none l n e = let h : length l ≤ n = omega arith in ap (λ (os : List ℕ). ownByte os) (sym (drop-of-length-le l h))
+
+pub own-last : (l : List ℕ) (n : ℕ) → n ≤ length l → (length l ≡ n → ⊥) → getD l (length l - 1) 0 ≡ ownByte (drop n l)
+own-last l n h e = sym (rw (length-drop n l) (getD-drop n l (length l - n - 1) 0 ∙ ap (λ (i : ℕ). getD l i 0) last))
+  where
+    last : n + (length l - n - 1) ≡ length l - 1
+    last = omega arith
+
+module _ {es : List ℕ} {own i : ℕ} (s : SignsSoFar es own i) where
+  pub signs-next : signTest es own i ≡ true → SignsSoFar es own (i + 1)
+  signs-next e = record { so-far = each-more i (signTest es own) (s .so-far) e }
+
+  pub signs-fail : {k : ℕ} → i < k → signTest es own i ≡ false → false ≡ signsBy k es own
+  unfolding signsBy
+  signs-fail {k} l h = sym (each-fails k (signTest es own) i l h)
+
+  pub signs-all : {k : ℕ} → i ≤ k → k ≤ i → true ≡ signsBy k es own
+  unfolding signsBy
+  signs-all {k} l u = sym (subst (λ (n : ℕ). each n (signTest es own) ≡ true) (omega arith) (s .so-far))
+
+-- the walk over a fixed number of places: of those before i, the ones under k carry the own sign
+pub record SignsUpTo (es : List ℕ) (own k i : ℕ) : Type 0 where
+  pub up-to : (n : ℕ) → n ≤ i → n ≤ k → SignsSoFar es own n
+
+pub up-to-none : (es : List ℕ) (own k : ℕ) → SignsUpTo es own k 0
+up-to-none es own k = record { up-to = λ n l m. subst (SignsSoFar es own) (omega arith) (signs-none es own) }
+
+module _ {es : List ℕ} {own k i : ℕ} (u : SignsUpTo es own k i) where
+  pub up-to-next : signTest es own (placeIn i k) ≡ true → SignsUpTo es own k (i + 1)
+  up-to-next e = record { up-to = λ n l m. go n l m (decLt i n) }
+    where
+      go : (n : ℕ) → n ≤ i + 1 → n ≤ k → Dec (i < n) → SignsSoFar es own n
+      go n l m (no h) = u .up-to n (omega arith) m
+      go n l m (yes h) = subst (SignsSoFar es own) (omega arith) (signs-next (u .up-to i (omega arith) (omega arith)) (ap (signTest es own) (sym (place-under i k (omega arith))) ∙ e))
+
+  pub up-to-all : k ≤ i → true ≡ signsBy k es own
+  up-to-all l = signs-all (u .up-to k l (omega arith)) (omega arith) (omega arith)
+
+pub up-to-fail : (es : List ℕ) (own k i : ℕ) → 0 < k → signTest es own (placeIn i k) ≡ false → false ≡ signsBy k es own
+unfolding signsBy
+up-to-fail es own k i p h = sym (each-fails k (signTest es own) (placeIn i k) (place-within i k p) h)
+
+-- one sign test, as the code branches
+pub same-minus : (m h : Bool) → m ≡ true → h ≡ sameSign m h
+same-minus m h e = rw e refl
+
+pub same-plus : (m h : Bool) → m ≡ false → not h ≡ sameSign m h
+same-plus m h e = rw e refl
+
+-- a root's bytes, under way: none before i has a sign
+pub record PlainSoFar (root : List ℕ) (i : ℕ) : Type 0 where
+  pub so-far : each i (λ j. not (minus (getD root j 0))) ≡ true
+
+pub plain-none : (root : List ℕ) → PlainSoFar root 0
+unfolding each
+plain-none root = record { so-far = refl }
+
+pub root-permutes : (root : List ℕ) → permutes (length root) (drop 0 root) ≡ false → false ≡ isRoot root
+unfolding isRoot
+root-permutes root e = sym (rw e refl)
+
+module _ {root : List ℕ} {i : ℕ} (s : PlainSoFar root i) where
+  pub plain-next : minus (getD root i 0) ≡ false → PlainSoFar root (i + 1)
+  plain-next e = record { so-far = each-more i (λ j. not (minus (getD root j 0))) (s .so-far) (ap not e) }
+
+  pub plain-fail : i < length root → minus (getD root i 0) ≡ true → false ≡ isRoot root
+  unfolding isRoot
+  plain-fail l e = sym (rw (each-fails (length root) (λ j. not (minus (getD root j 0))) i l (ap not e)) (and-false (permutes (length root) root)))
+
+  pub plain-all : permutes (length root) (drop 0 root) ≡ true → i ≤ length root → length root ≤ i → true ≡ isRoot root
+  unfolding isRoot
+  plain-all p l u = sym (and-both (permutes (length root) root) (each (length root) (λ j. not (minus (getD root j 0)))) p (subst (λ (n : ℕ). each n (λ j. not (minus (getD root j 0))) ≡ true) (omega arith) (s .so-far)))
+
+-- a path's bytes, under way: each before i is 0 or 1
+pub record StepsSoFar (path : List ℕ) (i : ℕ) : Type 0 where
+  pub so-far : each i (λ j. leb (getD path j 0) 1) ≡ true
+
+pub steps-none : (path : List ℕ) → StepsSoFar path 0
+unfolding each
+steps-none path = record { so-far = refl }
+
+module _ {path : List ℕ} {i : ℕ} (s : StepsSoFar path i) where
+  pub steps-next : getD path i 0 ≤ 1 → StepsSoFar path (i + 1)
+  steps-next e = record { so-far = each-more i (λ j. leb (getD path j 0) 1) (s .so-far) (le-leb (getD path i 0) 1 e) }
+
+  pub steps-fail : i < length path → 1 < getD path i 0 → false ≡ isPath path
+  unfolding isPath
+  steps-fail l e = sym (each-fails (length path) (λ j. leb (getD path j 0) 1) i l (lt-leb (getD path i 0) 1 e))
+
+  pub steps-all : i ≤ length path → length path ≤ i → true ≡ isPath path
+  unfolding isPath
+  steps-all l u = sym (subst (λ (n : ℕ). each n (λ j. leb (getD path j 0) 1) ≡ true) (omega arith) (s .so-far))

@@ -1,0 +1,131 @@
+// The tests of a code's body: its permutation, its orthant bytes, its signs. Each is a walk over lent bytes.
+ghost use mathlib.Core.Path.{_≡_};
+ghost use Prim.Native.Nat.{_+_, _-_, _≤_, _<_};
+ghost use lib.ListN.{length, drop};
+ghost use mathlib.Core.Bool.{cond};
+ghost use lib.Dec.{ltb};
+ghost use Rattle.dimension.specs.Sizes.{halvings};
+ghost use Rattle.bisection.specs.Codes.{axis, minus, high};
+ghost use Rattle.bisection.specs.Refusals.{permutes, orthantsFit, sameSign, isRoot, isPath};
+ghost use Rattle.entries.specs.Walks.{ownByte, signsBy, AxesWithin};
+
+use dimension::Dim;
+
+// The place, or the first one where there are no more than n. A walk that reads a place again instead of ending has one length
+// for every code: a loop whose end is not foreseen costs more than the steps it saves.
+pub fn place_in(i: usize, n: usize) -> usize
+    ensures { λ r. ⌜ r ≡ cond (ltb i n) i 0 ⌝ }
+{
+    if i < n {
+        return i;
+    }
+    0
+}
+
+// The d bytes from `at` on have the axes 1..d, none repeated: d entries whose marks are those of 1..d have each axis just once.
+pub fn permuted(s: &[u8], at: usize, d: usize) -> bool
+    requires { ⌜ (1 ≤ d) × (d ≤ 4) × (at + d ≤ length (now s)) ⌝ }
+    ensures { λ r. ⌜ r ≡ permutes d (drop at (now (s .entry))) ⌝ }
+{
+    let mut seen: u8 = 0;
+    let mut i: usize = 0;
+    while i < Dim::MOST_AXES {
+        let j = place_in(i, d);
+        seen = seen | crate::mark_of(s[at + j]);
+        i += 1;
+    }
+    seen == (1 << d) - 1
+}
+
+// No orthant byte of a code of dimension d has a bit at d or above: the bytes or-ed have none. There are no more than halvings.
+pub fn orthants_fit(code: &[u8], d: usize) -> bool
+    requires { ⌜ (d < 8) × (2 + d ≤ length (now code)) × (length (now code) ≤ 2 + d + halvings) ⌝ }
+    ensures { λ r. ⌜ r ≡ orthantsFit d (drop (2 + d) (now (code .entry))) ⌝ }
+{
+    let first = 2 + d;
+    let boxes = code.len() - first;
+    if boxes == 0 {
+        return true;
+    }
+    let mut any: u8 = 0;
+    let mut i: usize = 0;
+    while i < Dim::HALVINGS {
+        let j = place_in(i, boxes);
+        any = any | code[first + j];
+        i += 1;
+    }
+    any >> d == 0
+}
+
+// The last orthant byte of a code of dimension d, 0 where it has none: high where the box's own sign is minus.
+pub fn own_byte(code: &[u8], d: usize) -> u8
+    requires { ⌜ (d ≤ 8) × (2 + d ≤ length (now code)) ⌝ }
+    ensures { λ r. ⌜ r ≡ ownByte (drop (2 + d) (now (code .entry))) ⌝ }
+{
+    let n = code.len();
+    if n == 2 + d {
+        return 0;
+    }
+    code[n - 1]
+}
+
+// The entry carries the own sign that the orthant byte gives its axis.
+pub fn same_sign(e: u8, own: u8) -> bool
+    requires { ⌜ (1 ≤ axis e) × (axis e ≤ 8) ⌝ }
+    ensures { λ r. ⌜ r ≡ sameSign (minus e) (high own (axis e)) ⌝ }
+{
+    let high = crate::is_high(own, crate::axis_of(e));
+    if crate::is_minus(e) {
+        return high;
+    }
+    !high
+}
+
+// The first k entries carry the own sign that the orthant byte gives: the sign test, entry by entry. Where there are fewer
+// than the most axes it tests the first one again.
+pub fn signs_by(code: &[u8], k: usize, own: u8) -> bool
+    requires { ⌜ (1 ≤ k) × (k ≤ 4) × (2 + k ≤ length (now code)) × AxesWithin k (now code) ⌝ }
+    ensures { λ r. ⌜ r ≡ signsBy k (drop 2 (now (code .entry))) own ⌝ }
+{
+    let mut i: usize = 0;
+    while i < Dim::MOST_AXES {
+        let j = place_in(i, k);
+        if !same_sign(code[2 + j], own) {
+            return false;
+        }
+        i += 1;
+    }
+    true
+}
+
+// The bytes are those of a root: a permutation of the axes, and no byte with a sign.
+pub fn is_root(root: &[u8]) -> bool
+    requires { ⌜ (1 ≤ length (now root)) × (length (now root) ≤ 4) ⌝ }
+    ensures { λ r. ⌜ r ≡ isRoot (now (root .entry)) ⌝ }
+{
+    if !permuted(root, 0, root.len()) {
+        return false;
+    }
+    let mut i: usize = 0;
+    while i < root.len() {
+        if crate::is_minus(root[i]) {
+            return false;
+        }
+        i += 1;
+    }
+    true
+}
+
+// The bytes are those of a path: each is 0 or 1.
+pub fn is_path(path: &[u8]) -> bool
+    ensures { λ r. ⌜ r ≡ isPath (now (path .entry)) ⌝ }
+{
+    let mut i: usize = 0;
+    while i < path.len() {
+        if 1 < path[i] {
+            return false;
+        }
+        i += 1;
+    }
+    true
+}

@@ -1,0 +1,96 @@
+// Signed entries and orthant bytes. An entry's byte is its axis, plus 128 for minus; it is an i8 where it is negated.
+pub mod check; // check.rt: the walks that test a body
+
+ghost use mathlib.Core.Path.{_≡_};
+ghost use Prim.Native.Nat.{_+_, _-_, _*_, _^_, _≤_, _<_};
+ghost use lib.IntN.{ℤ, negℤ};
+ghost use mir.Syntax.{w8};
+ghost use mir.Val.{SFits};
+ghost use Rattle.bisection.specs.Codes.{axis, minus, negated, high};
+ghost use Rattle.entries.specs.Signs.{signedOf, byteOf};
+ghost use Rattle.entries.specs.Masks.{raised, markOf};
+
+pub fn size(x: u8) -> usize
+    ensures { λ r. ⌜ r ≡ x ⌝ }
+{
+    x as usize
+}
+
+// The axis of an entry.
+pub fn axis_of(e: u8) -> u8
+    ensures { λ r. ⌜ r ≡ axis e ⌝ }
+{
+    if e < 128 {
+        return e;
+    }
+    e - 128
+}
+
+// The entry has a minus.
+pub fn is_minus(e: u8) -> bool
+    ensures { λ r. ⌜ r ≡ minus e ⌝ }
+{
+    128 <= e
+}
+
+// An entry as a signed number: its axis, with its sign.
+pub fn signed_of(e: u8) -> i8
+    ensures { λ r. ⌜ r ≡ signedOf e ⌝ }
+{
+    if e < 128 {
+        return e as i8;
+    }
+    let a = (e - 128) as i8;
+    -a
+}
+
+// A signed number as an entry.
+pub fn byte_of(x: i8) -> u8
+    requires { ⌜ SFits w8 (negℤ x) ⌝ }
+    ensures { λ r. ⌜ r ≡ byteOf x ⌝ }
+{
+    if x < 0 {
+        let a = -x;
+        return 128 + (a as u8);
+    }
+    x as u8
+}
+
+// The entry with the other sign.
+pub fn negate(e: u8) -> u8
+    requires { ⌜ 1 ≤ axis e ⌝ }
+    ensures { λ r. ⌜ r ≡ negated e ⌝ }
+{
+    let x = signed_of(e);
+    byte_of(-x)
+}
+
+// The orthant byte is high on the axis: its bit at axis - 1, by shift and mask.
+pub fn is_high(orthant: u8, axis: u8) -> bool
+    requires { ⌜ (1 ≤ axis) × (axis ≤ 8) ⌝ }
+    ensures { λ r. ⌜ r ≡ high orthant axis ⌝ }
+{
+    (orthant >> (axis - 1)) & 1 == 1
+}
+
+// The orthant byte made high on the axis.
+pub fn raise(orthant: u8, axis: u8) -> u8
+    requires { ⌜ (1 ≤ axis) × (axis ≤ 8) ⌝ }
+    ensures { λ r. ⌜ r ≡ raised orthant axis ⌝ }
+{
+    orthant | (1 << (axis - 1))
+}
+
+// The byte that is high on the entry's axis alone; 0 where a byte has no bit for it.
+pub fn mark_of(e: u8) -> u8
+    ensures { λ r. ⌜ r ≡ markOf (axis e) ⌝ }
+{
+    let a = axis_of(e);
+    if a < 1 {
+        return 0;
+    }
+    if 8 < a {
+        return 0;
+    }
+    1 << (a - 1)
+}

@@ -1,0 +1,52 @@
+-- `box_step` meets its contract: k = 1 is the last level before a new box.
+use mathlib.Core.Path.{_≡_, refl, sym, ap, _∙_, subst}
+use Prim.Native.Nat.{ℕ, suc, _+_, _-_, _≤_, _<_}
+use lib.ListN.{length, getD, take, drop, length-set}
+use native.Mathlib.Omega.{arith}
+use Rattle.dimension.specs.Sizes.{axesOf}
+use Rattle.dimension.specs.Laws.{axes-range, box-small}
+use Rattle.steps.specs.Steps.{box-kept, box-new, box-room, code-room}
+use borrow.Author.Needs.{needs}
+use Rattle.steps.proofs.box_step.Statement.{statement}
+use Rattle.steps.proofs.box_step.Tie as tie
+
+returns : tie.Need-returns
+returns c = box-kept _ _ (omega (arith, (axes-range (c .before .before .args .dim)) .two)) _ (λ q. c .if1 .taken (c .before .before .pre .2 ∙ q))
+
+axes-requires : tie.Need-axes-requires
+axes-requires c κs = search needs
+
+orthant-of-requires : tie.Need-orthant-of-requires
+orthant-of-requires c κs = rw (c .before .axes .ensures) (omega (arith, (axes-range (c .before .before .before .before .args .dim)) .two), axes-range (c .before .before .before .before .args .dim) .few, omega (arith, code-room (axesOf (c .before .before .before .before .args .dim)) (c .before .before .before .before .args .depth) (c .before .before .before .before .args .buf .now) (c .before .before .before .before .pre .0)), c .before .before .before .before .pre .1)
+
+add-at : tie.Need-add-at
+add-at c = omega (arith, c .before .before .axes .ensures, (axes-range (c .before .before .before .before .before .args .dim)) .few)
+
+box-depth-requires : tie.Need-box-depth-requires
+box-depth-requires c κs = search needs
+
+add-at-2 : tie.Need-add-at-2
+add-at-2 c = omega (arith, c .before .before .before .axes .ensures, c .box-depth .ensures, (axes-range (c .before .before .before .before .before .before .args .dim)) .few, box-small (axesOf (c .before .before .before .before .before .before .args .dim)) (c .before .before .before .before .before .before .args .depth) (axes-range (c .before .before .before .before .before .before .args .dim)))
+
+slice-write-buf : tie.Need-slice-write-buf
+slice-write-buf c = rw (c .before .before .before .axes .ensures, c .box-depth .ensures) (box-room (axesOf (c .before .before .before .before .before .before .args .dim)) (c .before .before .before .before .before .before .args .depth) (omega (arith, (axes-range (c .before .before .before .before .before .before .args .dim)) .two)) (c .before .before .before .before .before .before .args .buf .now) (sym (c .before .before .before .before .before .before .pre .2) ∙ c .before .before .before .before .if1 .left) (c .before .before .before .before .before .before .pre .0))
+
+same-length : tie.Need-same-length
+same-length c = search needs
+
+returns-2 : tie.Need-returns-2
+returns-2 c = box-new (axesOf (c .before .before .before .before .before .before .args .dim)) (c .before .before .before .before .before .before .args .depth) (omega (arith, (axes-range (c .before .before .before .before .before .before .args .dim)) .two)) _ (sym (c .before .before .before .before .before .before .pre .2) ∙ c .before .before .before .before .if1 .left) _ (c .before .orthant-of .ensures ∙ rw (c .before .before .before .axes .ensures) refl) _ (rw (c .before .before .before .axes .ensures, c .box-depth .ensures) refl)
+
+pub box-step-spec : {M : Type 1} → statement M
+box-step-spec =
+    tie.close
+    (tie.spec
+    returns
+    axes-requires
+    orthant-of-requires
+    add-at
+    box-depth-requires
+    add-at-2
+    slice-write-buf
+    same-length
+    returns-2)

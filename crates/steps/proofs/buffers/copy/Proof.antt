@@ -1,0 +1,63 @@
+-- `copy` meets its contract. The loop keeps: i bytes are copied.
+use mathlib.Core.Path.{_≡_, refl, sym, ap, _∙_}
+use Prim.Native.Nat.{ℕ, suc, _+_, _-_, _≤_, _<_}
+use lib.ListN.{length, getD, take, drop, length-set, length-drop}
+use native.Mathlib.Omega.{arith}
+use lib.Seq.{paste, paste-zero}
+use Rattle.steps.specs.Buffers.{copied-next}
+use borrow.Author.Needs.{needs}
+use Rattle.steps.proofs.buffers.copy.Statement.{statement}
+use Rattle.steps.proofs.buffers.copy.Tie as tie
+
+abbrev Inv-loop : tie.InvT-loop
+Inv-loop src from n dst₀ to i₀ dst i = (i ≤ n) × (length dst ≡ length dst₀) × (dst ≡ paste dst₀ to (drop from src) i)
+
+abbrev μ-loop : tie.MeasureT-loop
+μ-loop src from n dst₀ to i₀ dst i = n - i
+
+loop-holds : tie.Need-loop-holds Inv-loop μ-loop
+loop-holds c = (omega arith, refl, paste-zero (c .args .dst .now) (c .args .to) (drop (c .args .from) (c .args .src .now)))
+
+add-dst : tie.Need-add-dst Inv-loop μ-loop
+add-dst c = search needs
+
+shared-slice-read-dst : tie.Need-shared-slice-read-dst Inv-loop μ-loop
+shared-slice-read-dst c = search needs
+
+add-dst-2 : tie.Need-add-dst-2 Inv-loop μ-loop
+add-dst-2 c = search needs
+
+slice-write-dst : tie.Need-slice-write-dst Inv-loop μ-loop
+slice-write-dst c = search needs
+
+add-i : tie.Need-add-i Inv-loop μ-loop
+add-i c = search needs
+
+loop-less : tie.Need-loop-less Inv-loop μ-loop
+loop-less c = search needs
+
+loop-again : tie.Need-loop-again Inv-loop μ-loop
+loop-again c = (omega arith, simp length-set (c .before .before .loop .inv .1), rw (c .before .before .loop .inv .2) (copied-next (c .before .before .before .args .dst .now) (c .before .before .before .args .to) (c .before .before .before .args .from) (c .before .before .before .args .src .now) (c .before .before .loop .i) (omega arith) (omega arith)))
+
+same-length : tie.Need-same-length Inv-loop μ-loop
+same-length c = search needs
+
+returns : tie.Need-returns Inv-loop μ-loop
+returns c = let e : c .before .loop .i ≡ c .before .before .args .n = omega arith in rw (← e) (c .before .loop .inv .2)
+
+pub copy-spec : {M : Type 1} → statement M
+copy-spec =
+    tie.close
+    (tie.spec
+    Inv-loop
+    μ-loop
+    loop-holds
+    add-dst
+    shared-slice-read-dst
+    add-dst-2
+    slice-write-dst
+    add-i
+    loop-less
+    loop-again
+    same-length
+    returns)

@@ -1,0 +1,68 @@
+-- `copy_front` meets its contract. The loop keeps: the places before i are copied, or all up to the last four.
+use mathlib.Core.Path.{_≡_, refl, sym, ap, _∙_}
+use Prim.Native.Nat.{ℕ, suc, _+_, _-_, _≤_, _<_}
+use lib.ListN.{length, getD, take, drop, length-set}
+use native.Mathlib.Omega.{arith}
+use Rattle.dimension.specs.Sizes.{halvings}
+use Rattle.entries.specs.Walks.{placeIn, place-no-later}
+use Rattle.steps.specs.Copying.{Fronted, fronted-none, fronted-next, fronted-last}
+use borrow.Author.Needs.{needs}
+use Rattle.steps.proofs.buffers.copy_front.Statement.{statement}
+use Rattle.steps.proofs.buffers.copy_front.Tie as tie
+
+abbrev Inv-loop : tie.InvT-loop
+Inv-loop code n out₀ last i₀ out i = Fronted code out₀ last i out
+
+abbrev μ-loop : tie.MeasureT-loop
+μ-loop code n out₀ last i₀ out i = halvings + 8 - i
+
+sub-last : tie.Need-sub-last Inv-loop μ-loop
+sub-last c = c .before .before .pre .0
+
+loop-holds : tie.Need-loop-holds Inv-loop μ-loop
+loop-holds c = fronted-none _ _ _
+
+place-in-requires : tie.Need-place-in-requires Inv-loop μ-loop
+place-in-requires c κs = search needs
+
+copy-four-requires : tie.Need-copy-four-requires Inv-loop μ-loop
+copy-four-requires c κs =
+    let p : c .before .place-in .result + 4 ≤ c .before .before .before .before .before .before .args .n = omega (arith, c .before .place-in .ensures, place-no-later (c .before .before .before .loop .i) (c .before .before .before .before .before .before .args .n - 4), c .before .before .before .before .before .before .pre .0) in
+    (omega (arith, p, c .before .before .before .before .before .before .pre .2), omega (arith, p, c .before .before .before .before .before .before .pre .3, c .before .before .before .loop .inv .so-far .size))
+
+add-i : tie.Need-add-i Inv-loop μ-loop
+add-i c = omega (arith, c .before .before .before .before .before .loop-test .taken)
+
+loop-less : tie.Need-loop-less Inv-loop μ-loop
+unfolding halvings
+loop-less c = omega (arith, c .before .before .before .before .before .loop-test .taken)
+
+loop-again : tie.Need-loop-again Inv-loop μ-loop
+loop-again c = fronted-next (c .before .before .before .before .before .before .loop .inv) (c .before .before .before .before .place-in .result) (c .before .before .before .before .place-in .ensures) (c .before .before .copy-four .ensures)
+
+copy-four-requires-2 : tie.Need-copy-four-requires-2 Inv-loop μ-loop
+copy-four-requires-2 c κs = (omega (arith, c .before .before .before .before .before .pre .0, c .before .before .before .before .before .pre .2), omega (arith, c .before .before .before .before .before .pre .0, c .before .before .before .before .before .pre .3, c .before .before .loop .inv .so-far .size))
+
+same-length : tie.Need-same-length Inv-loop μ-loop
+same-length c = c .before .before .copy-four2 .ensures .size ∙ c .before .before .before .before .before .loop .inv .so-far .size
+
+returns : tie.Need-returns Inv-loop μ-loop
+unfolding halvings
+returns c = fronted-last (c .before .before .before .before .before .loop .inv) (c .before .before .before .before .before .before .before .before .args .n) (c .before .before .copy-four2 .ensures) (omega (arith, c .before .before .before .before .loop-test .left, c .before .before .before .before .before .before .before .before .pre .1)) (omega (arith, c .before .before .before .before .before .before .before .before .pre .0)) (c .before .before .before .before .before .before .before .before .pre .2) (c .before .before .before .before .before .before .before .before .pre .3)
+
+pub copy-front-spec : {M : Type 1} → statement M
+copy-front-spec =
+    tie.close
+    (tie.spec
+    Inv-loop
+    μ-loop
+    sub-last
+    loop-holds
+    place-in-requires
+    copy-four-requires
+    add-i
+    loop-less
+    loop-again
+    copy-four-requires-2
+    same-length
+    returns)

@@ -1,0 +1,81 @@
+-- `orthant_of` meets its contract. The loop keeps: the mask is high on the axes of those entries before i that have a minus.
+use mathlib.Core.Path.{_≡_, refl, sym, ap, _∙_}
+use Prim.Native.Nat.{ℕ, suc, _+_, _-_, _≤_, _<_}
+use lib.ListN.{length, getD, take, drop}
+use native.Mathlib.Omega.{arith}
+use mathlib.Core.Logic.{⊎-elim}
+use Rattle.bisection.specs.Codes.{axis, minus}
+use Rattle.entries.specs.Masks.{raised}
+use Rattle.entries.specs.Walks.{place-under, place-within, entry-at}
+use Rattle.steps.specs.Buffers.{Marking, marking-none, marking-plus, marking-minus, marking-all}
+use borrow.Author.Needs.{needs}
+use Rattle.steps.proofs.buffers.orthant_of.Statement.{statement}
+use Rattle.steps.proofs.buffers.orthant_of.Tie as tie
+
+abbrev Inv-loop : tie.InvT-loop
+Inv-loop buf at d mask₀ i₀ mask i = Marking d (take d (drop at buf)) i mask
+
+abbrev μ-loop : tie.MeasureT-loop
+μ-loop buf at d mask₀ i₀ mask i = 4 - i
+
+loop-holds : tie.Need-loop-holds Inv-loop μ-loop
+loop-holds c = marking-none _ _
+
+place-in-requires : tie.Need-place-in-requires Inv-loop μ-loop
+place-in-requires c κs = search needs
+
+add-e : tie.Need-add-e Inv-loop μ-loop
+add-e c = omega (arith, c .place-in .ensures, place-within (c .before .before .loop .i) (c .before .before .before .before .args .d) (c .before .before .before .before .pre .0), c .before .before .before .before .pre .2)
+
+shared-slice-read-e : tie.Need-shared-slice-read-e Inv-loop μ-loop
+shared-slice-read-e c = omega (arith, c .before .place-in .ensures, place-within (c .before .before .before .loop .i) (c .before .before .before .before .before .args .d) (c .before .before .before .before .before .pre .0), c .before .before .before .before .before .pre .2)
+
+is-minus-requires : tie.Need-is-minus-requires Inv-loop μ-loop
+is-minus-requires c κs = search needs
+
+axis-of-requires : tie.Need-axis-of-requires Inv-loop μ-loop
+axis-of-requires c κs = search needs
+
+raise-requires : tie.Need-raise-requires Inv-loop μ-loop
+raise-requires c κs = 
+    let j = c .before .before .before .before .place-in .result in
+    let l : j < c .before .before .before .before .before .before .before .before .args .d = omega (arith, c .before .before .before .before .place-in .ensures, place-within (c .before .before .before .before .before .before .loop .i) (c .before .before .before .before .before .before .before .before .args .d) (c .before .before .before .before .before .before .before .before .pre .0)) in
+    rw (c .axis-of .ensures, entry-at (c .before .before .before .before .before .before .before .before .args .buf .now) (c .before .before .before .before .before .before .before .before .args .at) (c .before .before .before .before .before .before .before .before .args .d) j l) (c .before .before .before .before .before .before .before .before .pre .3 .low j l, omega (arith, c .before .before .before .before .before .before .before .before .pre .3 .high j l, c .before .before .before .before .before .before .before .before .pre .1))
+
+add-i : tie.Need-add-i Inv-loop μ-loop
+add-i c = search needs
+
+loop-less : tie.Need-loop-less Inv-loop μ-loop
+loop-less c = omega (arith, c .before .before .before .before .loop-test .taken)
+
+loop-again : tie.Need-loop-again Inv-loop μ-loop
+loop-again c = 
+    let j = c .before .before .before .place-in .result in
+    let l : j < c .before .before .before .before .before .before .before .args .d = omega (arith, c .before .before .before .place-in .ensures, place-within (c .before .before .before .before .before .loop .i) (c .before .before .before .before .before .before .before .args .d) (c .before .before .before .before .before .before .before .pre .0)) in
+    let here : c .before .before .before .before .before .loop .i < c .before .before .before .before .before .before .before .args .d → j ≡ c .before .before .before .before .before .loop .i = λ h. c .before .before .before .place-in .ensures ∙ place-under (c .before .before .before .before .before .loop .i) (c .before .before .before .before .before .before .before .args .d) h in
+    let e = entry-at (c .before .before .before .before .before .before .before .args .buf .now) (c .before .before .before .before .before .before .before .args .at) (c .before .before .before .before .before .before .before .args .d) j l in
+    ⊎-elim
+      (λ w. rw (w .3 ∙ w .2 .ensures ∙ ap (raised (c .before .before .before .before .before .loop .mask)) (w .1 .ensures ∙ ap axis e)) (marking-minus (c .before .before .before .before .before .before .before .pre .3) (c .before .before .before .before .before .loop .inv) j l here (ap minus (sym e) ∙ sym (c .before .is-minus .ensures) ∙ w .0 .taken)))
+      (λ w. rw (w .1) (marking-plus (c .before .before .before .before .before .before .before .pre .3) (c .before .before .before .before .before .loop .inv) j l here (ap minus (sym e) ∙ sym (c .before .is-minus .ensures) ∙ w .0 .left)))
+      (c .if1 .came)
+
+returns : tie.Need-returns Inv-loop μ-loop
+returns c = marking-all (c .before .before .before .pre .3) (c .before .loop .inv) (omega (arith, c .loop-test .left, c .before .before .before .pre .1))
+
+pub orthant-of-spec : {M : Type 1} → statement M
+orthant-of-spec =
+    tie.close
+    (tie.spec
+    Inv-loop
+    μ-loop
+    loop-holds
+    place-in-requires
+    add-e
+    shared-slice-read-e
+    is-minus-requires
+    axis-of-requires
+    raise-requires
+    add-i
+    loop-less
+    loop-again
+    returns)

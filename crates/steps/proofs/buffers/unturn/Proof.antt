@@ -1,0 +1,74 @@
+-- `unturn` meets its contract. The loop keeps: the places before i hold the entries turned back, and `moved` is the next.
+use mathlib.Core.Path.{_≡_, refl, sym, ap, _∙_}
+use Prim.Native.Nat.{ℕ, suc, _+_, _-_, _≤_, _<_}
+use lib.ListN.{length, getD}
+use native.Mathlib.Omega.{arith}
+use Rattle.steps.specs.Buffers.{Unturning, unturning-none, unturning-next, unturning-all}
+use borrow.Author.Needs.{needs}
+use Rattle.steps.proofs.buffers.unturn.Statement.{statement}
+use Rattle.steps.proofs.buffers.unturn.Tie as tie
+
+abbrev Inv-loop : tie.InvT-loop
+Inv-loop buf₀ at n moved₀ i₀ buf moved i = (i ≤ n + 1) × Unturning buf₀ at n i buf moved
+
+abbrev μ-loop : tie.MeasureT-loop
+μ-loop buf₀ at n moved₀ i₀ buf moved i = n + 1 - i
+
+add-negate : tie.Need-add-negate Inv-loop μ-loop
+add-negate c = search needs
+
+slice-read-negate : tie.Need-slice-read-negate Inv-loop μ-loop
+slice-read-negate c = search needs
+
+negate-requires : tie.Need-negate-requires Inv-loop μ-loop
+negate-requires c κs = c .before .before .pre .1
+
+loop-holds : tie.Need-loop-holds Inv-loop μ-loop
+loop-holds c = (omega arith, unturning-none (c .before .before .before .args .buf .now) (c .before .before .before .args .at) (c .before .before .before .args .n) (c .before .before .before .pre .0) _ (c .negate .ensures))
+
+add-e : tie.Need-add-e Inv-loop μ-loop
+add-e c = omega (arith, c .before .before .before .before .before .pre .0, c .loop-test .taken)
+
+slice-read-e : tie.Need-slice-read-e Inv-loop μ-loop
+slice-read-e c = omega (arith, c .before .before .before .before .before .before .pre .0, c .before .loop-test .taken, c .before .before .loop .inv .1 .filled .size)
+
+add-buf : tie.Need-add-buf Inv-loop μ-loop
+add-buf c = omega (arith, c .before .before .before .before .before .before .pre .0, c .before .loop-test .taken)
+
+slice-write-buf : tie.Need-slice-write-buf Inv-loop μ-loop
+slice-write-buf c = omega (arith, c .before .before .before .before .before .before .pre .0, c .before .loop-test .taken, c .before .before .loop .inv .1 .filled .size)
+
+add-i : tie.Need-add-i Inv-loop μ-loop
+add-i c = omega (arith, c .before .before .before .before .before .before .pre .0, c .before .loop-test .taken)
+
+loop-less : tie.Need-loop-less Inv-loop μ-loop
+loop-less c = search needs
+
+loop-again : tie.Need-loop-again Inv-loop μ-loop
+loop-again c = (omega (arith, c .before .loop-test .taken), unturning-next (c .before .before .before .before .before .before .args .buf .now) (c .before .before .before .before .before .before .args .at) (c .before .before .before .before .before .before .args .n) (c .before .before .before .before .before .before .pre .0) (c .before .before .loop .i) (c .before .before .loop .buf) (c .before .before .loop .moved) (c .before .loop-test .taken) (c .before .before .loop .inv .1))
+
+same-length : tie.Need-same-length Inv-loop μ-loop
+same-length c = c .before .loop .inv .1 .filled .size
+
+returns : tie.Need-returns Inv-loop μ-loop
+returns c = unturning-all (c .before .before .before .before .before .args .buf .now) (c .before .before .before .before .before .args .at) (c .before .before .before .before .before .args .n) (c .before .before .before .before .before .pre .0) (c .before .loop .i) (c .before .loop .buf) (c .before .loop .moved) (c .loop-test .left) (c .before .loop .inv .0) (c .before .loop .inv .1)
+
+pub unturn-spec : {M : Type 1} → statement M
+unturn-spec =
+    tie.close
+    (tie.spec
+    Inv-loop
+    μ-loop
+    add-negate
+    slice-read-negate
+    negate-requires
+    loop-holds
+    add-e
+    slice-read-e
+    add-buf
+    slice-write-buf
+    add-i
+    loop-less
+    loop-again
+    same-length
+    returns)

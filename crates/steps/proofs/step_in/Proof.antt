@@ -1,0 +1,27 @@
+-- `step_in` meets its contract: the turn, then the new box.
+use mathlib.Core.Path.{_≡_, refl, sym, ap, _∙_, subst}
+use Prim.Native.Nat.{ℕ, suc, _+_, _-_, _≤_, _<_}
+use lib.ListN.{length, getD, take, drop, length-set}
+use native.Mathlib.Omega.{arith}
+use Rattle.dimension.specs.Sizes.{axesOf}
+use Rattle.dimension.specs.Laws.{axes-range, split-range}
+use Rattle.steps.specs.Steps.{nameIn, turned-ready, steps-to, code-room, first-axis}
+use borrow.Author.Needs.{needs}
+use Rattle.steps.proofs.step_in.Statement.{statement}
+use Rattle.steps.proofs.step_in.Tie as tie
+
+turn-step-requires : tie.Need-turn-step-requires
+unfolding nameIn
+turn-step-requires c κs = let r = split-range (axesOf (c .before .before .args .dim)) (c .before .before .args .depth) (omega (arith, (axes-range (c .before .before .args .dim)) .two)) in (omega (arith, r .0, c .before .before .pre .2), omega (arith, r .1, c .before .before .pre .2, code-room (axesOf (c .before .before .args .dim)) (c .before .before .args .depth) (c .before .before .args .buf .now) (c .before .before .pre .0)), first-axis (axesOf (c .before .before .args .dim)) (c .before .before .args .buf .now) (omega (arith, (axes-range (c .before .before .args .dim)) .two)) (c .before .before .pre .1 .signed))
+
+box-step-requires : tie.Need-box-step-requires
+box-step-requires c κs = let t = turned-ready (axesOf (c .before .before .before .before .before .before .args .dim)) (c .before .before .before .before .before .before .args .depth) (c .before .before .before .before .before .before .args .which) (omega (arith, (axes-range (c .before .before .before .before .before .before .args .dim)) .two)) (c .before .before .before .before .before .before .args .buf .now) (c .before .before .before .before .before .before .pre .0) (omega (arith, (axes-range (c .before .before .before .before .before .before .args .dim)) .few)) (c .before .before .before .before .before .before .pre .1) in rw (c .before .before .before .turn-step .ensures, c .before .before .before .before .before .before .pre .2) (t .0, t .1, refl)
+
+same-length : tie.Need-same-length
+same-length c = search needs
+
+returns : tie.Need-returns
+returns c = rw (c .before .before .box-step .ensures, c .before .before .before .before .before .before .turn-step .ensures, c .before .before .before .before .before .before .before .before .before .pre .2) (steps-to (axesOf (c .before .before .before .before .before .before .before .before .before .args .dim)) (c .before .before .before .before .before .before .before .before .before .args .depth) (c .before .before .before .before .before .before .before .before .before .args .which) (omega (arith, (axes-range (c .before .before .before .before .before .before .before .before .before .args .dim)) .two)) (c .before .before .before .before .before .before .before .before .before .args .buf .now) (c .before .before .before .before .before .before .before .before .before .pre .0) (omega (arith, (axes-range (c .before .before .before .before .before .before .before .before .before .args .dim)) .few)) (c .before .before .before .before .before .before .before .before .before .pre .1))
+
+pub step-in-spec : {M : Type 1} → statement M
+step-in-spec = tie.close (tie.spec turn-step-requires box-step-requires same-length returns)

@@ -1,0 +1,66 @@
+-- `walk_down` meets its contract. The loop keeps: the name in the buffer is t steps down the path, and k its split place.
+use mathlib.Core.Path.{_≡_, refl, sym, ap, _∙_, subst}
+use Prim.Native.Nat.{ℕ, suc, _+_, _-_, _≤_, _<_}
+use lib.ListN.{length, getD, take, drop, length-set}
+use native.Mathlib.Omega.{arith}
+use mathlib.Core.List.{List, _++_}
+use native.Mathlib.Numerals.{add-one}
+use Rattle.dimension.specs.Sizes.{axesOf, splitPlace}
+use Rattle.dimension.specs.Laws.{axes-range, split-range, split-after, at-root}
+use Rattle.steps.specs.Descents.{WalksTo, walk-none, walk-next, walk-ready}
+use borrow.Author.Needs.{needs}
+use Rattle.steps.proofs.walks.walk_down.Statement.{statement}
+use Rattle.steps.proofs.walks.walk_down.Tie as tie
+
+abbrev Inv-loop : tie.InvT-loop
+Inv-loop dim path code₀ d k₀ t₀ code k t = (t ≤ length path) × (k ≡ splitPlace (axesOf dim) t) × WalksTo (axesOf dim) path t code₀ code
+
+abbrev μ-loop : tie.MeasureT-loop
+μ-loop dim path code₀ d k₀ t₀ code k t = length path - t
+
+axes-requires : tie.Need-axes-requires Inv-loop μ-loop
+axes-requires c κs = search needs
+
+loop-holds : tie.Need-loop-holds Inv-loop μ-loop
+loop-holds c = (omega arith, c .axes .ensures ∙ sym (at-root (axesOf (c .before .before .before .args .dim)) (omega (arith, (axes-range (c .before .before .before .args .dim)) .two)) .1), walk-none _ _ _)
+
+shared-slice-read-step-in : tie.Need-shared-slice-read-step-in Inv-loop μ-loop
+shared-slice-read-step-in c = search needs
+
+step-in-requires : tie.Need-step-in-requires Inv-loop μ-loop
+step-in-requires c κs = let r = walk-ready (omega (arith, (axes-range (c .before .before .before .before .before .before .before .args .dim)) .two)) (omega (arith, (axes-range (c .before .before .before .before .before .before .before .args .dim)) .few)) (c .before .before .before .loop .inv .2) (c .before .before .before .before .before .before .before .pre .1) (c .before .before .loop-test .taken) (c .before .before .before .before .before .before .before .pre .0) in (r .0, r .1, c .before .before .before .loop .inv .1)
+
+place-after-requires : tie.Need-place-after-requires Inv-loop μ-loop
+place-after-requires c κs = omega (arith, c .before .before .before .before .before .before .loop .inv .1, split-range (axesOf (c .before .before .before .before .before .before .before .before .before .before .args .dim)) (c .before .before .before .before .before .before .loop .t) (omega (arith, (axes-range (c .before .before .before .before .before .before .before .before .before .before .args .dim)) .two)) .0)
+
+add-t : tie.Need-add-t Inv-loop μ-loop
+add-t c = search needs
+
+loop-less : tie.Need-loop-less Inv-loop μ-loop
+loop-less c = search needs
+
+loop-again : tie.Need-loop-again Inv-loop μ-loop
+loop-again c = (omega arith, c .place-after .ensures ∙ rw (c .before .before .before .before .before .before .before .before .axes .ensures) (split-after (axesOf (c .before .before .before .before .before .before .before .before .before .before .before .args .dim)) (c .before .before .before .before .before .before .before .loop .t) (c .before .before .before .before .before .before .before .loop .k) (omega (arith, (axes-range (c .before .before .before .before .before .before .before .before .before .before .before .args .dim)) .two)) (c .before .before .before .before .before .before .before .loop .inv .1)) ∙ ap (splitPlace (axesOf (c .before .before .before .before .before .before .before .before .before .before .before .args .dim))) (sym (add-one (c .before .before .before .before .before .before .before .loop .t))), walk-next (omega (arith, (axes-range (c .before .before .before .before .before .before .before .before .before .before .before .args .dim)) .two)) (omega (arith, (axes-range (c .before .before .before .before .before .before .before .before .before .before .before .args .dim)) .few)) (c .before .before .before .before .before .before .before .loop .inv .2) (c .before .before .before .before .before .before .before .before .before .before .before .pre .1) (c .before .before .before .before .before .before .loop-test .taken) _ (c .before .before .before .step-in .ensures))
+
+same-length : tie.Need-same-length Inv-loop μ-loop
+same-length c = c .before .loop .inv .2 .size
+
+returns : tie.Need-returns Inv-loop μ-loop
+returns c = let e : c .before .loop .t ≡ length (c .before .before .before .before .before .args .path .now) = omega (arith, c .before .loop .inv .0) in rw (← e) (c .before .loop .inv .2)
+
+pub walk-down-spec : {M : Type 1} → statement M
+walk-down-spec =
+    tie.close
+    (tie.spec
+    Inv-loop
+    μ-loop
+    axes-requires
+    loop-holds
+    shared-slice-read-step-in
+    step-in-requires
+    place-after-requires
+    add-t
+    loop-less
+    loop-again
+    same-length
+    returns)

@@ -1,0 +1,51 @@
+-- `write_code` meets its contract: two bytes, the root, and the walk down the path.
+use mathlib.Core.Path.{_≡_, refl, sym, ap, _∙_, subst}
+use mathlib.Core.List.{List, _++_}
+use Prim.Native.Nat.{ℕ, suc, _+_, _-_, _%_, _≤_, _<_}
+use lib.ListN.{length, getD, take, drop, length-set}
+use native.Mathlib.Omega.{arith}
+use Rattle.steps.specs.Descents.{code-two, code-d, code-depth, code-ready, code-written}
+use borrow.Author.Needs.{needs}
+use Rattle.steps.proofs.walks.write_code.Statement.{statement}
+use Rattle.steps.proofs.walks.write_code.Tie as tie
+
+axes-requires : tie.Need-axes-requires
+axes-requires c κs = search needs
+
+cast-code : tie.Need-cast-code
+cast-code c = search needs
+
+slice-write-code : tie.Need-slice-write-code
+slice-write-code c = omega (arith, code-two (c .before .before .before .before .pre))
+
+cast-code-2 : tie.Need-cast-code-2
+cast-code-2 c = search needs
+
+slice-write-code-2 : tie.Need-slice-write-code-2
+slice-write-code-2 c = simp length-set (omega (arith, code-two (c .before .before .before .before .pre)))
+
+copy-requires : tie.Need-copy-requires
+copy-requires c κs = (omega (arith, c .before .axes .ensures, c .before .before .before .before .before .pre .axes), simp length-set (omega (arith, c .before .axes .ensures, code-two (c .before .before .before .before .before .pre))))
+
+walk-down-requires : tie.Need-walk-down-requires
+walk-down-requires c κs = rw (c .before .before .before .copy .ensures, c .before .before .before .before .before .axes .ensures, code-d (c .before .before .before .before .before .before .before .before .before .pre), code-depth (c .before .before .before .before .before .before .before .before .before .pre)) (code-ready (c .before .before .before .before .before .before .before .before .before .pre))
+
+same-length : tie.Need-same-length
+same-length c = c .before .code2 .given ∙ (c .before .before .before .before .before .code .given ∙ simp length-set refl)
+
+returns : tie.Need-returns
+returns c = code-written (c .before .before .before .before .before .before .before .before .before .before .before .before .pre) _ (rw (c .before .before .before .before .before .before .copy .ensures, c .before .before .before .before .before .before .before .before .axes .ensures, code-d (c .before .before .before .before .before .before .before .before .before .before .before .before .pre), code-depth (c .before .before .before .before .before .before .before .before .before .before .before .before .pre)) at (c .before .before .walk-down .ensures))
+
+pub write-code-spec : {M : Type 1} → statement M
+write-code-spec =
+    tie.close
+    (tie.spec
+    axes-requires
+    cast-code
+    slice-write-code
+    cast-code-2
+    slice-write-code-2
+    copy-requires
+    walk-down-requires
+    same-length
+    returns)

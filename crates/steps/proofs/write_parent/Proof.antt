@@ -1,0 +1,88 @@
+-- `write_parent` meets its contract: the last step is taken back on a copy of the front of the code.
+use mathlib.Core.Path.{_≡_, refl, sym, ap, _∙_, subst}
+use mathlib.Core.List.{List, _++_}
+use Prim.Native.Nat.{ℕ, suc, _+_, _-_, _*_, _≤_, _<_}
+use lib.ListN.{length, getD, take, drop, length-set}
+use native.Mathlib.Omega.{arith}
+use Rattle.dimension.specs.Sizes.{codeLength, boxDepth}
+use Rattle.dimension.specs.Laws.{axes-range, split-fits, split-sub, split-rest, split-is}
+use Rattle.bisection.specs.Codes.{depthOf}
+use Rattle.steps.specs.Parents.{parent-front, parent-four, parent-few, parent-two, parent-split, parent-byte, parent-size, parent-ready, parent-written}
+use borrow.Author.Needs.{needs}
+use Rattle.steps.proofs.write_parent.Statement.{statement}
+use Rattle.steps.proofs.write_parent.Tie as tie
+
+counted : (d D x q : ℕ) → x ≡ d → q ≡ boxDepth d D → 2 + x + q ≡ codeLength d D
+unfolding codeLength
+counted d D x q e f = rw (e, f) refl
+
+axes-requires : tie.Need-axes-requires
+axes-requires c κs = search needs
+
+box-depth-requires : tie.Need-box-depth-requires
+box-depth-requires c κs = search needs
+
+own-of-requires : tie.Need-own-of-requires
+own-of-requires c κs = rw (counted _ _ _ _ (c .before .axes .ensures) (c .box-depth .ensures)) (parent-front (c .before .before .before .before .pre))
+
+mul-k : tie.Need-mul-k
+mul-k c = record { fits = split-fits _ _ _ _ (c .before .before .axes .ensures) (c .before .box-depth .ensures) (omega arith) }
+
+sub-k : tie.Need-sub-k
+sub-k c = split-sub _ _ _ _ (c .before .before .axes .ensures) (c .before .box-depth .ensures)
+
+sub-k-2 : tie.Need-sub-k-2
+sub-k-2 c = split-rest _ _ _ _ (omega (arith, axes-range (c .before .before .before .before .before .args .dim) .two)) (c .before .before .axes .ensures) (c .before .box-depth .ensures)
+
+add-copy-front : tie.Need-add-copy-front
+add-copy-front c = omega (arith, (counted _ _ _ _ (c .before .before .axes .ensures) (c .before .box-depth .ensures)), parent-few (c .before .before .before .before .before .pre))
+
+add-copy-front-2 : tie.Need-add-copy-front-2
+add-copy-front-2 c = omega (arith, (counted _ _ _ _ (c .before .before .axes .ensures) (c .before .box-depth .ensures)), parent-few (c .before .before .before .before .before .pre))
+
+copy-front-requires : tie.Need-copy-front-requires
+copy-front-requires c κs = rw (counted _ _ _ _ (c .before .before .before .axes .ensures) (c .before .before .box-depth .ensures)) (parent-four (c .before .before .before .before .before .before .pre), parent-few (c .before .before .before .before .before .before .pre), parent-front (c .before .before .before .before .before .before .pre), c .before .before .before .before .before .before .pre .room)
+
+shared-slice-read-out : tie.Need-shared-slice-read-out
+shared-slice-read-out c = omega (arith, parent-two (c .before .before .before .before .before .before .before .before .before .before .pre))
+
+sub-out : tie.Need-sub-out
+unfolding depthOf
+sub-out c = omega (arith, c .before .before .before .before .before .before .before .before .before .before .pre .depth)
+
+slice-write-out : tie.Need-slice-write-out
+unfolding codeLength
+slice-write-out c = omega (arith, ap length (c .before .before .before .copy-front .ensures), parent-size (c .before .before .before .before .before .before .before .before .before .before .pre) _ (counted _ _ _ _ (c .before .before .before .before .before .before .before .axes .ensures) (c .before .before .before .before .before .before .box-depth .ensures)), c .before .before .before .before .before .before .before .before .before .before .pre .room)
+
+sub-unstep : tie.Need-sub-unstep
+sub-unstep c = omega (arith, split-is _ _ _ _ (c .before .before .before .before .before .before .before .before .axes .ensures) (c .before .before .before .before .before .before .before .box-depth .ensures), parent-split (c .before .before .before .before .before .before .before .before .before .before .before .pre))
+
+unstep-requires : tie.Need-unstep-requires
+unstep-requires c κs = rw (c .before .before .before .before .copy-front .ensures) (parent-ready (c .before .before .before .before .before .before .before .before .before .before .before .pre) _ _ _ (counted _ _ _ _ (c .before .before .before .before .before .before .before .before .axes .ensures) (c .before .before .before .before .before .before .before .box-depth .ensures)) (ap (λ (k : ℕ). k - 1) (split-is _ _ _ _ (c .before .before .before .before .before .before .before .before .axes .ensures) (c .before .before .before .before .before .before .before .box-depth .ensures))))
+
+same-length : tie.Need-same-length
+same-length c = c .before .out2 .given ∙ simp length-set (c .before .before .before .before .before .before .out .given)
+
+returns : tie.Need-returns
+returns c = parent-written (c .before .before .before .before .before .before .before .before .before .before .before .before .before .before .pre) _ _ _ _ _ _ (counted _ _ _ _ (c .before .before .before .before .before .before .before .before .before .before .before .axes .ensures) (c .before .before .before .before .before .before .before .before .before .before .box-depth .ensures)) (parent-byte (c .before .before .before .before .before .before .before .before .before .before .before .before .before .before .pre)) (ap (λ (k : ℕ). k - 1) (split-is _ _ _ _ (c .before .before .before .before .before .before .before .before .before .before .before .axes .ensures) (c .before .before .before .before .before .before .before .before .before .before .box-depth .ensures))) (rw (c .before .before .before .before .before .before .before .before .before .before .before .axes .ensures, c .before .before .before .before .before .before .before .before .before .before .box-depth .ensures) at (c .before .before .before .before .before .before .before .before .before .own-of .ensures)) (rw (c .before .before .before .before .before .before .before .copy-front .ensures) at (c .before .before .unstep .ensures))
+
+pub write-parent-spec : {M : Type 1} → statement M
+write-parent-spec =
+    tie.close
+    (tie.spec
+    axes-requires
+    box-depth-requires
+    own-of-requires
+    mul-k
+    sub-k
+    sub-k-2
+    add-copy-front
+    add-copy-front-2
+    copy-front-requires
+    shared-slice-read-out
+    sub-out
+    slice-write-out
+    sub-unstep
+    unstep-requires
+    same-length
+    returns)

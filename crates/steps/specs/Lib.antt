@@ -1,0 +1,10 @@
+-- Steps of the bisection on codes in lent buffers. All of it is checked, none is believed.
+-- Entries in a buffer; one step on and one step back.
+pub mod Buffers
+pub mod Copying
+pub mod Steps
+-- Child and parent as they are written; whole paths down and up.
+pub mod Relatives
+pub mod Parents
+pub mod Descents
+pub mod Climbs
