@@ -1,19 +1,15 @@
 -- The walk up from a code: the steps come out deepest first, each with the weight of its depth.
 use mathlib.Core.Path.{_≡_, refl, sym, ap, _∙_, subst}
 use mathlib.Core.Bool.{Bool, true, false, cond}
-use mathlib.Core.List.{List, [], _∷_, _++_}
+use mathlib.Core.List.{List, _∷_}
 use Prim.Native.Nat.{ℕ, zero, suc, _+_, _-_, _*_, _^_, _≤_, _<_}
 use native.Mathlib.Omega.{arith}
-use lib.Dec.{eqb}
-use borrow.Author.Tests.{eq-eqb, ne-eqb}
-use mathlib.Core.Logic.{_⊎_, inl, inr}
-use lib.ListN.{length, getD, take, drop, set, replicate, length-set, length-replicate, length-take, length-drop}
+use lib.ListN.{length, getD, take, drop, set, replicate, length-set, length-replicate}
 use lib.Pow.{pow-lt}
-use lib.Seq.{paste, drop-cons, drop-set-lt, getD-set-same, getD-take, getD-drop}
-use Rattle.dimension.specs.Sizes.{greatestDepth, splitPlace, boxDepth, codeLength}
-use Rattle.dimension.specs.Laws.{split-range, Within, Turned, deeper}
+use lib.Seq.{drop-cons, drop-set-lt, getD-set-same}
+use Rattle.dimension.specs.Sizes.{greatestDepth, splitPlace, boxDepth}
 use Rattle.bisection.specs.Codes.{axis, minus, high}
-use Rattle.bisection.specs.Refusals.{done, codeRefusal, sameSign}
+use Rattle.bisection.specs.Refusals.{sameSign}
 use Rattle.entries.specs.Walks.{ownByte}
 use Rattle.steps.specs.Steps.{StepsBack}
 use Rattle.steps.specs.Climbs.{ClimbReady, Climbed, climb-none, up-next}
@@ -124,74 +120,3 @@ pub more-of : (b half start : ℕ) → b ≤ 1 → half < 2 ^ 60 → start + 1 �
 more-of zero half start h l i = omega arith
 more-of (suc zero) half start h l i = omega arith
 more-of (suc (suc b)) half start h l i = absurd (omega arith)
-
--- the split place and the boxes one depth up
-abbrev pub placeAbove : ℕ → ℕ → ℕ
-placeAbove k d = cond (eqb k d) 1 (k + 1)
-
-abbrev pub boxesAbove : ℕ → ℕ → ℕ → ℕ
-boxesAbove boxes k d = cond (eqb k d) (boxes - 1) boxes
-
-pub record BoxesReady (boxes k d : ℕ) : Type 0 where
-  pub some : k ≡ d → 1 ≤ boxes
-
-module _ (k d boxes : ℕ) where
-  pub place-first : k ≡ d → 1 ≡ placeAbove k d
-  place-first e = rw (eq-eqb k d e) refl
-
-  pub place-on : (k ≡ d → ⊥) → k + 1 ≡ placeAbove k d
-  place-on n = rw (ne-eqb k d n) refl
-
-  pub boxes-first : k ≡ d → boxes - 1 ≡ boxesAbove boxes k d
-  boxes-first e = rw (eq-eqb k d e) refl
-
-  pub boxes-on : (k ≡ d → ⊥) → boxes ≡ boxesAbove boxes k d
-  boxes-on n = rw (ne-eqb k d n) refl
-
-record Above (k d boxes t : ℕ) : Type 0 where
-  pub place : placeAbove k d ≡ splitPlace d t
-  pub count : boxesAbove boxes k d ≡ boxDepth d t
-  pub some : k ≡ d → 1 ≤ boxes
-
-above-suc : (k d boxes t : ℕ) → 0 < d → k ≡ splitPlace d (suc t) → boxes ≡ boxDepth d (suc t) → Above k d boxes t
-above-suc k d boxes t d0 e f = go (deeper d t d0)
-  where
-    go : Within d t ⊎ Turned d t → Above k d boxes t
-    go (inl w) =
-        let n : k ≡ d → ⊥ = λ q. omega (arith, w .split, split-range d t d0) in
-        record { place = sym (place-on k d boxes n) ∙ omega (arith, w .split); count = sym (boxes-on k d boxes n) ∙ f ∙ w .box; some = λ q. absurd (n q) }
-    go (inr w) =
-        let q : k ≡ d = e ∙ w .split in
-        record { place = sym (place-first k d boxes q) ∙ sym (w .last); count = sym (boxes-first k d boxes q) ∙ omega (arith, w .box); some = λ z. omega (arith, w .box) }
-
-module _ {k d boxes t : ℕ} (d0 : 0 < d) (pos : 0 < t) (e : k ≡ splitPlace d t) (f : boxes ≡ boxDepth d t) where
-  a : Above k d boxes (t - 1)
-  a = above-suc k d boxes (t - 1) d0 (e ∙ ap (splitPlace d) back) (f ∙ ap (boxDepth d) back)
-    where
-      back : t ≡ suc (t - 1)
-      back = omega arith
-
-  pub above-place : placeAbove k d ≡ splitPlace d (t - 1)
-  above-place = a .place
-
-  pub above-boxes : boxesAbove boxes k d ≡ boxDepth d (t - 1)
-  above-boxes = a .count
-
-  pub above-ready : BoxesReady boxes k d
-  above-ready = record { some = a .some }
-
--- the code has a byte for each box of a depth above
-pub boxes-room : (d t : ℕ) (code : List ℕ) → codeLength d t ≤ length code → 2 + d + boxDepth d t ≤ length code
-unfolding codeLength
-boxes-room d t code h = h
-
--- what the loop's calls answer
-module _ {k d boxes t : ℕ} (d0 : 0 < d) (pos : 0 < t) (e : k ≡ splitPlace d t) (f : boxes ≡ boxDepth d t) where
-  pub go-boxes : {r : ℕ} → r ≡ boxesAbove boxes k d → r ≡ boxDepth d (t - 1)
-  go-boxes u = u ∙ above-boxes d0 pos e f
-
-  pub go-place : {r : ℕ} → r ≡ placeAbove k d → r ≡ splitPlace d (t - 1)
-  go-place u = u ∙ above-place d0 pos e f
-
-pub own-by : (code : List ℕ) (d b b′ : ℕ) {own : ℕ} → b ≡ b′ → own ≡ ownByte (take b (drop (2 + d) code)) → own ≡ ownByte (take b′ (drop (2 + d) code))
-own-by code d b b′ e u = u ∙ ap (λ (n : ℕ). ownByte (take n (drop (2 + d) code))) e

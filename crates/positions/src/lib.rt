@@ -7,7 +7,7 @@ ghost use Rattle.dimension.specs.Sizes.{axesOf, greatestDepth};
 ghost use Rattle.bisection.specs.Refusals.{done, codeRefusal};
 ghost use Rattle.positions.specs.Positions.{PositionIs};
 ghost use Rattle.positions.specs.RootNumbers.{smallerIn, numberIn};
-ghost use Rattle.positions.specs.Walks.{WalkReady, Walked, placeAbove, BoxesReady, boxesAbove};
+ghost use Rattle.positions.specs.Walks.{WalkReady, Walked};
 
 use dimension::Dim;
 use steps::buffers;
@@ -70,28 +70,6 @@ fn number(root: &[u8], d: usize) -> usize
     n
 }
 
-// The split place one depth up, from the one here.
-fn place_above(k: usize, axes: usize) -> usize
-    requires { ⌜ k ≤ 8 ⌝ }
-    ensures { λ r. ⌜ r ≡ placeAbove k axes ⌝ }
-{
-    if k == axes {
-        return 1;
-    }
-    k + 1
-}
-
-// How many boxes there are one depth up, from those here.
-fn boxes_above(boxes: usize, k: usize, axes: usize) -> usize
-    requires { ⌜ BoxesReady boxes k axes ⌝ }
-    ensures { λ r. ⌜ r ≡ boxesAbove boxes k axes ⌝ }
-{
-    if k == axes {
-        return boxes - 1;
-    }
-    boxes
-}
-
 // Takes the steps of the entries in `root` back, the deepest first, down to the root; gives where the cell starts.
 fn walk(code: &[u8], dim: Dim, depth: usize, root: &mut [u8], size: u64) -> u64
     requires { ⌜ WalkReady (axesOf dim) depth (now code) (now root) size ⌝ }
@@ -105,8 +83,8 @@ fn walk(code: &[u8], dim: Dim, depth: usize, root: &mut [u8], size: u64) -> u64
     let mut t: usize = depth;
     while 0 < t {
         t -= 1;
-        boxes = boxes_above(boxes, k, axes);
-        k = place_above(k, axes);
+        boxes = steps::boxes_above(boxes, k, axes);
+        k = steps::place_above(k, axes);
         let own = steps::own_of(code, axes, boxes);
         start += wide(steps::unstep(root, 0, k - 1, own)) * half;
         half = half * 2;

@@ -1,17 +1,13 @@
 -- A path walked up in two buffers, the deepest step first.
 use mathlib.Core.Path.{_≡_, refl, sym, ap, _∙_, subst}
-use mathlib.Core.Bool.{cond}
 use mathlib.Core.List.{List, [], _∷_, _++_, append-assoc}
-use Prim.Native.Nat.{ℕ, zero, suc, _+_, _-_, _≤_, _<_}
+use Prim.Native.Nat.{ℕ, suc, _+_, _-_, _≤_, _<_}
 use native.Mathlib.Omega.{arith}
 use native.Mathlib.Nat.{zero-add}
 use lib.ListN.{length, getD, take, drop, set, length-take, length-drop, length-append, length-set, take-append-drop}
 use lib.Seq.{take-take, take-at, drop-at, drop-cons, drop-set-lt, getD-set-same, getD-take}
-use lib.Dec.{eqb}
-use mathlib.Core.Logic.{_⊎_, inl, inr}
-use borrow.Author.Tests.{eq-eqb, ne-eqb}
 use Rattle.dimension.specs.Sizes.{codeLength, splitPlace, boxDepth}
-use Rattle.dimension.specs.Laws.{Dimension, split-range, Within, Turned, deeper}
+use Rattle.dimension.specs.Laws.{Dimension, split-range}
 use Rattle.bisection.specs.Codes.{axis, high, Name}
 use Rattle.bisection.specs.Refusals.{ownMinus}
 use Rattle.bisection.specs.Theorems.Passing.{Passes, fewer, lastStep, unstepped, parentName, parent-passes}
@@ -44,17 +40,6 @@ pub record Climbed (d D : ℕ) (code : List ℕ) (t : ℕ) (root path root' path
   pub the-path : pathTo d t (nameAbove d t code root') ++ take (D - t) (drop t path') ≡ pathTo d D (nameAbove d D code root)
   pub root-rest : drop d root' ≡ drop d root
   pub path-rest : drop D path' ≡ drop D path
-
--- the split place one step up, from this one
-pub split-before : (d t k : ℕ) → 0 < d → 0 < t → k ≡ splitPlace d t → cond (eqb k d) 1 (k + 1) ≡ splitPlace d (t - 1)
-split-before d (suc t) k d0 h e = go (deeper d t d0) ∙ ap (splitPlace d) less
-  where
-    less : t ≡ suc t - 1
-    less = omega arith
-    go : Within d t ⊎ Turned d t → cond (eqb k d) 1 (k + 1) ≡ splitPlace d t
-    go (inl w) = rw (ne-eqb k d (λ q. absurd (omega (arith, e, w .split, split-range d t d0)))) (omega (arith, e, w .split))
-    go (inr u) = rw (eq-eqb k d (e ∙ u .split)) (sym (u .last))
-split-before d zero k d0 h e = absurd (omega arith)
 
 -- the own byte and the orthants one box up
 module _ {d D : ℕ} {code root path : List ℕ} (k : ClimbReady d D code root path) where

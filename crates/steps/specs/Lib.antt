@@ -7,4 +7,5 @@ pub mod Steps
 pub mod Relatives
 pub mod Parents
 pub mod Descents
+pub mod Above
 pub mod Climbs

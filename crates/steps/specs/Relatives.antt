@@ -164,15 +164,3 @@ module _ {code out : List ℕ} {d D : ℕ} (r : ChildReady code d D out) where
   pub child-written : (b v : ℕ) (a : List ℕ) → v ≡ suc D → StepsTo d D b (set (take (length code) code ++ drop (length code) out) 1 v) a → a ≡ childCode b code ++ drop (codeLength d (suc D)) out
   unfolding childBuffer
   child-written b v a e s = written b v a e s
-
--- the own byte by the count of boxes
-pub own-no-box : (d boxes : ℕ) (code : List ℕ) → boxes ≡ 0 → 0 ≡ ownByte (take boxes (drop (2 + d) code))
-own-no-box d boxes code e = rw e refl
-
-pub own-last-box : (d boxes : ℕ) (code : List ℕ) → 2 + d + boxes ≤ length code → (boxes ≡ 0 → ⊥) → getD code (1 + d + boxes) 0 ≡ ownByte (take boxes (drop (2 + d) code))
-own-last-box d boxes code h n = sym (rw counted (getD-take boxes (drop (2 + d) code) (boxes - 1) 0 (omega arith) ∙ getD-drop (2 + d) code (boxes - 1) 0) ∙ ap (λ (i : ℕ). getD code i 0) there)
-  where
-    counted : length (take boxes (drop (2 + d) code)) ≡ boxes
-    counted = simp (length-take, length-drop) (omega arith)
-    there : 2 + d + (boxes - 1) ≡ 1 + d + boxes
-    there = omega arith

@@ -16,6 +16,7 @@ ghost use Rattle.bisection.specs.Theorems.Passing.{Passes};
 ghost use Rattle.steps.specs.Buffers.{atPlace};
 ghost use Rattle.entries.specs.Walks.{ownByte};
 ghost use Rattle.steps.specs.Steps.{nameIn, boxed, StepsTo, StepsBack};
+ghost use Rattle.steps.specs.Above.{placeAbove, BoxesReady, boxesAbove};
 ghost use Rattle.steps.specs.Relatives.{ChildReady, ParentReady};
 
 use dimension::Dim;
@@ -67,14 +68,25 @@ pub fn place_after(d: usize, k: usize) -> usize
 }
 
 // The split place one step up.
-pub fn place_before(d: usize, k: usize) -> usize
-    requires { ⌜ (k ≤ d) × (d ≤ 8) ⌝ }
-    ensures { λ r. ⌜ r ≡ cond (eqb k d) 1 (k + 1) ⌝ }
+pub fn place_above(k: usize, axes: usize) -> usize
+    requires { ⌜ k ≤ 8 ⌝ }
+    ensures { λ r. ⌜ r ≡ placeAbove k axes ⌝ }
 {
-    if k == d {
+    if k == axes {
         return 1;
     }
     k + 1
+}
+
+// How many boxes there are one step up, from those here.
+pub fn boxes_above(boxes: usize, k: usize, axes: usize) -> usize
+    requires { ⌜ BoxesReady boxes k axes ⌝ }
+    ensures { λ r. ⌜ r ≡ boxesAbove boxes k axes ⌝ }
+{
+    if k == axes {
+        return boxes - 1;
+    }
+    boxes
 }
 
 // Takes back the last step of the entries from `at` on: entry n tells it by its sign against the parent's box.
@@ -98,14 +110,6 @@ pub fn own_of(code: &[u8], axes: usize, boxes: usize) -> u8
         return 0;
     }
     code[1 + axes + boxes]
-}
-
-// The same for the box at a depth above a code's.
-pub fn own_at(code: &[u8], dim: Dim, depth: usize) -> u8
-    requires { ⌜ codeLength (axesOf dim) depth ≤ length (now code) ⌝ }
-    ensures { λ r. ⌜ r ≡ ownByte (take (boxDepth (axesOf dim) depth) (drop (2 + axesOf dim) (now (code .entry)))) ⌝ }
-{
-    own_of(code, dim.axes(), dim.box_depth(depth))
 }
 
 // Writes the child's code: the code with one more depth, stepped where it stands.

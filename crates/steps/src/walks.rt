@@ -47,12 +47,13 @@ pub fn walk_up(code: &[u8], dim: Dim, depth: usize, root: &mut [u8], path: &mut 
 {
     let d = dim.axes();
     let mut k = dim.split_place(depth);
+    let mut boxes = dim.box_depth(depth);
     let mut t: usize = depth;
     while 0 < t {
         t -= 1;
-        k = crate::place_before(d, k);
-        let own = crate::own_at(code, dim, t);
-        let n = k - 1;
-        path[t] = crate::unstep(root, 0, n, own);
+        boxes = crate::boxes_above(boxes, k, d);
+        k = crate::place_above(k, d);
+        let own = crate::own_of(code, d, boxes);
+        path[t] = crate::unstep(root, 0, k - 1, own);
     }
 }

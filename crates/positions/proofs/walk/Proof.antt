@@ -10,7 +10,8 @@ use Rattle.dimension.specs.declared.Dim.{Dim}
 use Rattle.dimension.specs.Sizes.{axesOf, greatestDepth, splitPlace, boxDepth}
 use Rattle.dimension.specs.Laws.{axes-range, split-range}
 use Rattle.steps.specs.Climbs.{up-split, up-size, up-ready}
-use Rattle.positions.specs.Walks.{WalkReady, Walked, walk-none, walk-next, walk-done, step-small, half-small, one-of, more-of, above-ready, go-boxes, go-place, own-by, boxes-room}
+use Rattle.steps.specs.Above.{above-ready, go-boxes, go-place, own-by, boxes-room}
+use Rattle.positions.specs.Walks.{WalkReady, Walked, walk-none, walk-next, walk-done, step-small, half-small, one-of, more-of}
 use borrow.Author.Needs.{needs}
 use Rattle.positions.proofs.walk.Statement.{statement}
 use Rattle.positions.proofs.walk.Tie as tie

@@ -4,7 +4,7 @@ use Prim.Native.Nat.{ℕ, suc, _+_, _-_, _*_, _^_, _≤_, _<_}
 use native.Mathlib.Omega.{arith}
 use native.Mathlib.Numerals.{add-one}
 use lib.ListN.{length, getD}
-use Rattle.steps.specs.Relatives.{own-no-box, own-last-box}
+use Rattle.steps.specs.Above.{own-no-box, own-last-box}
 use borrow.Author.Needs.{needs}
 use Rattle.steps.proofs.own_of.Statement.{statement}
 use Rattle.steps.proofs.own_of.Tie as tie

@@ -2,12 +2,10 @@
 use mathlib.Core.Path.{_≡_, refl, sym, ap, _∙_, subst}
 use Prim.Native.Nat.{ℕ, suc, _+_, _-_, _*_, _^_, _≤_, _<_}
 use native.Mathlib.Omega.{arith}
-use native.Mathlib.Numerals.{add-one}
-use lib.ListN.{length, getD}
-use Rattle.positions.specs.Walks.{place-first, place-on}
+use Rattle.steps.specs.Above.{place-first, place-on}
 use borrow.Author.Needs.{needs}
-use Rattle.positions.proofs.place_above.Statement.{statement}
-use Rattle.positions.proofs.place_above.Tie as tie
+use Rattle.steps.proofs.place_above.Statement.{statement}
+use Rattle.steps.proofs.place_above.Tie as tie
 
 returns : tie.Need-returns
 returns c = place-first (c .before .args .k) (c .before .args .axes) 0 (c .if1 .taken)

@@ -2,12 +2,10 @@
 use mathlib.Core.Path.{_≡_, refl, sym, ap, _∙_, subst}
 use Prim.Native.Nat.{ℕ, suc, _+_, _-_, _*_, _^_, _≤_, _<_}
 use native.Mathlib.Omega.{arith}
-use native.Mathlib.Numerals.{add-one}
-use lib.ListN.{length, getD}
-use Rattle.positions.specs.Walks.{boxes-first, boxes-on}
+use Rattle.steps.specs.Above.{boxes-first, boxes-on}
 use borrow.Author.Needs.{needs}
-use Rattle.positions.proofs.boxes_above.Statement.{statement}
-use Rattle.positions.proofs.boxes_above.Tie as tie
+use Rattle.steps.proofs.boxes_above.Statement.{statement}
+use Rattle.steps.proofs.boxes_above.Tie as tie
 
 sub-result : tie.Need-sub-result
 sub-result c = c .before .pre .some (c .if1 .taken)
