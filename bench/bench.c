@@ -337,7 +337,7 @@ int main(void)
         return 0;
     printf("\n| dimension | leaves | bytes | ours, MB/s | plain C, MB/s | speed |\n|---|---|---|---|---|---|\n");
     for (uint8_t d = 2; d <= 4; d++)
-        for (size_t leaves = 1000; leaves <= 100000; leaves *= 10)
+        for (size_t leaves = 10000; leaves <= 100000; leaves *= 10)
             speed_row(d, leaves);
     return 0;
 }

@@ -5,5 +5,6 @@ pub mod Positions
 pub mod Arrangements
 pub mod Rising
 pub mod RootNumbers
+pub mod Fours
 pub mod Walks
 pub mod Places

@@ -27,6 +27,9 @@ module _ (code room : List ℕ) (e : codeRefusal code ≡ done) (d D : ℕ) (ax 
   pub few : d ≤ 4
   few = omega (arith, k .range .few)
 
+  pub place-two : 2 ≤ d
+  place-two = omega (arith, k .range .two)
+
   lr : d ≤ length room
   lr = omega (arith, few)
 

@@ -1,16 +1,19 @@
 // Cells on the line: where the cell of a code that passes stands. It belongs to the code layer: what stands above it
 // knows a cell by its position alone.
+mod four; // four.rt: the entries on the way up, by value
+
 ghost use mathlib.Core.Path.{_≡_};
 ghost use Prim.Native.Nat.{_+_, _-_, _*_, _^_, _≤_, _<_};
 ghost use lib.ListN.{length};
 ghost use Rattle.dimension.specs.Sizes.{axesOf, greatestDepth};
 ghost use Rattle.bisection.specs.Refusals.{done, codeRefusal};
+ghost use Rattle.positions.specs.Fours.{four};
 ghost use Rattle.positions.specs.Positions.{PositionIs};
 ghost use Rattle.positions.specs.RootNumbers.{smallerIn, numberIn};
 ghost use Rattle.positions.specs.Walks.{WalkReady, Walked};
 
 use dimension::Dim;
-use steps::buffers;
+use crate::four::Four;
 
 // The number of a cell's root in dictionary order, and its part of the root's stretch.
 pub struct Position {
@@ -70,12 +73,22 @@ fn number(root: &[u8], d: usize) -> usize
     n
 }
 
-// Takes the steps of the entries in `root` back, the deepest first, down to the root; gives where the cell starts.
-fn walk(code: &[u8], dim: Dim, depth: usize, root: &mut [u8], size: u64) -> u64
-    requires { ⌜ WalkReady (axesOf dim) depth (now code) (now root) size ⌝ }
-    ensures { λ r. ⌜ Walked (axesOf dim) depth (now (code .entry)) 0 (now (root .entry)) (now (root .exit)) r (2 ^ greatestDepth (axesOf dim)) ⌝ }
+// Where the way up from a code ends: its root's entries, and where the cell starts on the root's stretch.
+struct Origin {
+    root: Four,
+    start: u64,
+}
+
+// Takes the steps of the entries back, the deepest first, up to the root.
+fn walk(code: &[u8], dim: Dim, depth: usize, from: Four, size: u64) -> Origin
+    requires { ⌜ WalkReady (axesOf dim) depth (now code) (four from) size ⌝ }
+    ensures { λ r. ⌜ Walked (axesOf dim) depth (now (code .entry)) 0 (four from) (four (r .root)) (r .start) (2 ^ greatestDepth (axesOf dim)) ⌝ }
 {
     let axes = dim.axes();
+    let mut first = from.first;
+    let mut second = from.second;
+    let mut third = from.third;
+    let mut fourth = from.fourth;
     let mut k = dim.split_place(depth);
     let mut boxes = dim.box_depth(depth);
     let mut start: u64 = 0;
@@ -86,28 +99,27 @@ fn walk(code: &[u8], dim: Dim, depth: usize, root: &mut [u8], size: u64) -> u64
         boxes = steps::boxes_above(boxes, k, axes);
         k = steps::place_above(k, axes);
         let own = steps::own_of(code, axes, boxes);
-        start += wide(steps::unstep(root, 0, k - 1, own)) * half;
+        let here = Four {
+            first,
+            second,
+            third,
+            fourth,
+        };
+        let back = four::unstep(here, k - 1, own);
+        first = back.before.first;
+        second = back.before.second;
+        third = back.before.third;
+        fourth = back.before.fourth;
+        start += wide(back.step) * half;
         half = half * 2;
     }
-    start
-}
-
-// The same, with a buffer for the root.
-fn position_in(code: &[u8], root: &mut [u8]) -> Position
-    requires { ⌜ (codeRefusal (now code) ≡ done) × (4 ≤ length (now root)) ⌝ }
-    ensures { λ r. ⌜ PositionIs (now (code .entry)) r ⌝ }
-{
-    let dim = Dim::checked(code[0]);
-    let axes = dim.axes();
-    let depth = entries::size(code[1]);
-    buffers::copy(code, 2, axes, root, 0);
-    let size = power(dim.greatest_depth() - depth);
-    let start = walk(code, dim, depth, root, size);
-    Position {
-        root: number(root, axes),
-        start,
-        size,
-    }
+    let root = Four {
+        first,
+        second,
+        third,
+        fourth,
+    };
+    Origin { root, start }
 }
 
 // Where the cell of a code that passes stands.
@@ -115,6 +127,15 @@ pub fn position_of(code: &[u8]) -> Position
     requires { ⌜ codeRefusal (now code) ≡ done ⌝ }
     ensures { λ r. ⌜ PositionIs (now (code .entry)) r ⌝ }
 {
-    let mut root: [u8; 4] = [0; 4];
-    position_in(code, &mut root)
+    let dim = Dim::checked(code[0]);
+    let axes = dim.axes();
+    let depth = entries::size(code[1]);
+    let size = power(dim.greatest_depth() - depth);
+    let origin = walk(code, dim, depth, four::entries_of(code, axes), size);
+    let root = [origin.root.first, origin.root.second, origin.root.third, origin.root.fourth];
+    Position {
+        root: number(&root, axes),
+        start: origin.start,
+        size,
+    }
 }

@@ -1,0 +1,58 @@
+-- `entries_of` meets its contract.
+use mathlib.Core.Path.{_≡_, refl, sym, ap, _∙_, subst}
+use Prim.Native.Nat.{ℕ, suc, _+_, _-_, _≤_, _<_}
+use native.Mathlib.Omega.{arith}
+use lib.ListN.{length, getD, take, drop}
+use Rattle.positions.specs.Fours.{kept-under, entries-are}
+use borrow.Author.Needs.{needs}
+use Rattle.positions.proofs.four.entries_of.Statement.{statement}
+use Rattle.positions.proofs.four.entries_of.Tie as tie
+
+place-in-requires : tie.Need-place-in-requires
+place-in-requires c κs = search needs
+
+add-third : tie.Need-add-third
+add-third c = omega (arith, c .place-in .ensures, kept-under 2 (c .before .before .args .d) (c .before .before .pre .0), c .before .before .pre .1)
+
+shared-slice-read-third : tie.Need-shared-slice-read-third
+shared-slice-read-third c = omega (arith, c .before .place-in .ensures, kept-under 2 (c .before .before .before .args .d) (c .before .before .before .pre .0), c .before .before .before .pre .2)
+
+place-in-requires-2 : tie.Need-place-in-requires-2
+place-in-requires-2 c κs = search needs
+
+add-fourth : tie.Need-add-fourth
+add-fourth c = omega (arith, c .place-in2 .ensures, kept-under 3 (c .before .before .before .before .args .d) (c .before .before .before .before .pre .0), c .before .before .before .before .pre .1)
+
+shared-slice-read-fourth : tie.Need-shared-slice-read-fourth
+shared-slice-read-fourth c = omega (arith, c .before .place-in2 .ensures, kept-under 3 (c .before .before .before .before .before .args .d) (c .before .before .before .before .before .pre .0), c .before .before .before .before .before .pre .2)
+
+shared-slice-read-t8 : tie.Need-shared-slice-read-t8
+shared-slice-read-t8 c = search needs
+
+shared-slice-read-t12 : tie.Need-shared-slice-read-t12
+shared-slice-read-t12 c = search needs
+
+pick-requires : tie.Need-pick-requires
+pick-requires c κs = search needs
+
+pick-requires-2 : tie.Need-pick-requires-2
+pick-requires-2 c κs = search needs
+
+returns : tie.Need-returns
+returns c = rw (c .before .pick .ensures, c .pick2 .ensures, c .before .before .before .before .before .before .before .place-in .ensures, c .before .before .before .before .before .place-in2 .ensures) (entries-are (c .before .before .before .before .before .before .before .before .before .args .code .now) (c .before .before .before .before .before .before .before .before .before .args .d) (c .before .before .before .before .before .before .before .before .before .pre .0) (c .before .before .before .before .before .before .before .before .before .pre .1) (c .before .before .before .before .before .before .before .before .before .pre .2))
+
+pub entries-of-spec : {M : Type 1} → statement M
+entries-of-spec =
+    tie.close
+    (tie.spec
+    place-in-requires
+    add-third
+    shared-slice-read-third
+    place-in-requires-2
+    add-fourth
+    shared-slice-read-fourth
+    shared-slice-read-t8
+    shared-slice-read-t12
+    pick-requires
+    pick-requires-2
+    returns)

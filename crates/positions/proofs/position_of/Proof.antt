@@ -1,0 +1,77 @@
+-- `position_of` meets its contract: the steps of the entries are taken back, and the root numbered.
+use mathlib.Core.Path.{_≡_, refl, sym, ap, _∙_, subst}
+use Prim.Native.Nat.{ℕ, suc, _+_, _-_, _*_, _^_, _≤_, _<_}
+use native.Mathlib.Omega.{arith}
+use lib.ListN.{length, getD}
+use Rattle.dimension.specs.Sizes.{greatestDepth}
+use Rattle.bisection.specs.Codes.{dimensionOf, depthOf}
+use Rattle.entries.specs.Passed.{checked, checked-two}
+use Rattle.positions.specs.Fours.{noEntries}
+use Rattle.positions.specs.Places.{few, place-two, place-copy, place-deep, place-small, place-ready, place-room, place-is}
+use borrow.Author.Needs.{needs}
+use Rattle.positions.proofs.position_of.Statement.{statement}
+use Rattle.positions.proofs.position_of.Tie as tie
+
+shared-slice-read-checked : tie.Need-shared-slice-read-checked
+shared-slice-read-checked c = omega (arith, checked-two (c .before .before .args .code .now) (c .before .before .pre))
+
+checked-requires : tie.Need-checked-requires
+unfolding dimensionOf
+checked-requires c κs = checked (c .before .before .args .code .now) (c .before .before .pre) .good .dimension
+
+axes-requires : tie.Need-axes-requires
+axes-requires c κs = search needs
+
+shared-slice-read-size : tie.Need-shared-slice-read-size
+shared-slice-read-size c = omega (arith, checked-two (c .before .before .before .before .before .args .code .now) (c .before .before .before .before .before .pre))
+
+size-requires : tie.Need-size-requires
+size-requires c κs = search needs
+
+greatest-depth-requires : tie.Need-greatest-depth-requires
+greatest-depth-requires c κs = search needs
+
+sub-power : tie.Need-sub-power
+unfolding dimensionOf depthOf
+sub-power c = let h = place-deep (c .before .before .before .before .before .before .before .args .code .now) noEntries (c .before .before .before .before .before .before .before .pre) _ _ (c .before .before .before .axes .ensures ∙ c .before .before .before .before .checked .ensures) (c .before .size .ensures) (omega arith) in omega (arith, h, c .greatest-depth .ensures, ap greatestDepth (c .before .before .before .axes .ensures))
+
+power-requires : tie.Need-power-requires
+unfolding dimensionOf depthOf
+power-requires c κs = let h = place-small (c .before .before .before .before .before .before .before .args .code .now) noEntries (c .before .before .before .before .before .before .before .pre) _ _ (c .before .before .before .axes .ensures ∙ c .before .before .before .before .checked .ensures) (c .before .size .ensures) (omega arith) in omega (arith, h, c .greatest-depth .ensures, ap greatestDepth (c .before .before .before .axes .ensures))
+
+entries-of-requires : tie.Need-entries-of-requires
+unfolding dimensionOf depthOf
+entries-of-requires c κs = (place-two (c .before .before .before .before .before .before .before .before .args .code .now) noEntries (c .before .before .before .before .before .before .before .before .pre) _ _ (c .before .before .before .before .axes .ensures ∙ c .before .before .before .before .before .checked .ensures) (c .before .before .size .ensures) (omega arith), few (c .before .before .before .before .before .before .before .before .args .code .now) noEntries (c .before .before .before .before .before .before .before .before .pre) _ _ (c .before .before .before .before .axes .ensures ∙ c .before .before .before .before .before .checked .ensures) (c .before .before .size .ensures) (omega arith), place-copy (c .before .before .before .before .before .before .before .before .args .code .now) noEntries (c .before .before .before .before .before .before .before .before .pre) _ _ (c .before .before .before .before .axes .ensures ∙ c .before .before .before .before .before .checked .ensures) (c .before .before .size .ensures) (omega arith) .0)
+
+walk-requires : tie.Need-walk-requires
+unfolding dimensionOf depthOf
+walk-requires c κs = rw (c .entries-of .ensures, ← c .before .before .before .before .before .axes .ensures) (place-ready (c .before .before .before .before .before .before .before .before .before .args .code .now) noEntries (c .before .before .before .before .before .before .before .before .before .pre) _ _ (c .before .before .before .before .before .axes .ensures ∙ c .before .before .before .before .before .before .checked .ensures) (c .before .before .before .size .ensures) (omega arith) _ (c .before .power .ensures ∙ ap (λ (n : ℕ). 2 ^ (n - c .before .before .before .size .result)) (c .before .before .greatest-depth .ensures ∙ ap greatestDepth (sym (c .before .before .before .before .before .axes .ensures)))))
+
+slice-aggregate-number : tie.Need-slice-aggregate-number
+slice-aggregate-number c = search needs
+
+number-requires : tie.Need-number-requires
+unfolding dimensionOf depthOf
+number-requires c κs = (few (c .before .before .before .before .before .before .before .before .before .before .before .args .code .now) noEntries (c .before .before .before .before .before .before .before .before .before .before .before .pre) _ _ (c .before .before .before .before .before .before .before .axes .ensures ∙ c .before .before .before .before .before .before .before .before .checked .ensures) (c .before .before .before .before .before .size .ensures) (omega arith), place-room (c .before .before .before .before .before .before .before .before .before .before .before .args .code .now) noEntries (c .before .before .before .before .before .before .before .before .before .before .before .pre) _ _ (c .before .before .before .before .before .before .before .axes .ensures ∙ c .before .before .before .before .before .before .before .before .checked .ensures) (c .before .before .before .before .before .size .ensures) (omega arith) _ _ _ (rw (c .before .before .entries-of .ensures, ← c .before .before .before .before .before .before .before .axes .ensures) at (c .before .walk .ensures)))
+
+returns : tie.Need-returns
+unfolding dimensionOf depthOf
+returns c = place-is (c .before .before .before .before .before .before .before .before .before .before .before .before .args .code .now) noEntries (c .before .before .before .before .before .before .before .before .before .before .before .before .pre) _ _ (c .before .before .before .before .before .before .before .before .axes .ensures ∙ c .before .before .before .before .before .before .before .before .before .checked .ensures) (c .before .before .before .before .before .before .size .ensures) (omega arith) _ _ _ (rw (c .before .before .before .entries-of .ensures, ← c .before .before .before .before .before .before .before .before .axes .ensures) at (c .before .before .walk .ensures)) _ _ (c .number .ensures) (c .before .before .before .before .power .ensures ∙ ap (λ (n : ℕ). 2 ^ (n - c .before .before .before .before .before .before .size .result)) (c .before .before .before .before .before .greatest-depth .ensures ∙ ap greatestDepth (sym (c .before .before .before .before .before .before .before .before .axes .ensures))))
+
+pub position-of-spec : {M : Type 1} → statement M
+position-of-spec =
+    tie.close
+    (tie.spec
+    shared-slice-read-checked
+    checked-requires
+    axes-requires
+    shared-slice-read-size
+    size-requires
+    greatest-depth-requires
+    sub-power
+    power-requires
+    entries-of-requires
+    walk-requires
+    slice-aggregate-number
+    number-requires
+    returns)

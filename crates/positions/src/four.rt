@@ -1,0 +1,103 @@
+// Four entries by value: those of a code on the way up to its root. A dimension with fewer axes leaves the last ones 0.
+// Nothing here branches on an entry: which step is taken back is not foreseen, and a branch on it costs more than both sides.
+ghost use mathlib.Core.Path.{_≡_};
+ghost use mathlib.Core.Bool.{cond};
+ghost use Prim.Native.Nat.{_+_, _≤_, _<_};
+ghost use lib.ListN.{length, getD, drop};
+ghost use lib.Seq.{paste};
+ghost use Rattle.bisection.specs.Codes.{axis};
+ghost use Rattle.bisection.specs.Theorems.Entries.{unturned};
+ghost use Rattle.steps.specs.Steps.{StepsBack};
+ghost use Rattle.positions.specs.Fours.{four, noEntries};
+
+use entries::check;
+
+pub struct Four {
+    pub first: u8,
+    pub second: u8,
+    pub third: u8,
+    pub fourth: u8,
+}
+
+// The entries one step up, and the step.
+pub struct Back {
+    pub before: Four,
+    pub step: u8,
+}
+
+// One of two bytes.
+fn pick(b: bool, x: u8, y: u8) -> u8
+    ensures { λ r. ⌜ r ≡ cond b x y ⌝ }
+{
+    if b {
+        return x;
+    }
+    y
+}
+
+// The entry at a place.
+fn entry(e: Four, n: usize) -> u8
+    requires { ⌜ n < 4 ⌝ }
+    ensures { λ r. ⌜ r ≡ getD (four e) n 0 ⌝ }
+{
+    match n {
+        0 => e.first,
+        1 => e.second,
+        2 => e.third,
+        _ => e.fourth,
+    }
+}
+
+// The first n + 1 entries turned right by one place, the one that comes to the first place negated.
+fn turned_back(e: Four, n: usize) -> Four
+    requires { ⌜ (n < 4) × (1 ≤ axis (getD (four e) n 0)) ⌝ }
+    ensures { λ r. ⌜ four r ≡ unturned n (four e) ⌝ }
+{
+    let first = entries::negate(entry(e, n));
+    let second = pick(0 < n, e.first, e.second);
+    let third = pick(1 < n, e.second, e.third);
+    let fourth = pick(2 < n, e.third, e.fourth);
+    Four {
+        first,
+        second,
+        third,
+        fourth,
+    }
+}
+
+// Takes back the last step: entry n tells it by its sign against the parent's box.
+pub fn unstep(e: Four, n: usize, own: u8) -> Back
+    requires { ⌜ (n < 4) × (1 ≤ axis (getD (four e) n 0)) × (axis (getD (four e) n 0) ≤ 8) ⌝ }
+    ensures { λ r. ⌜ StepsBack 0 n own (four e) (r .step) (four (r .before)) ⌝ }
+{
+    let same = check::same_sign(entry(e, n), own);
+    let turned = turned_back(e, n);
+    let first = pick(same, e.first, turned.first);
+    let second = pick(same, e.second, turned.second);
+    let third = pick(same, e.third, turned.third);
+    let fourth = pick(same, e.fourth, turned.fourth);
+    Back {
+        before: Four {
+            first,
+            second,
+            third,
+            fourth,
+        },
+        step: pick(same, 0, 1),
+    }
+}
+
+// The entries of a code.
+pub fn entries_of(code: &[u8], d: usize) -> Four
+    requires { ⌜ (2 ≤ d) × (d ≤ 4) × (2 + d ≤ length (now code)) ⌝ }
+    ensures { λ r. ⌜ four r ≡ paste noEntries 0 (drop 2 (now (code .entry))) d ⌝ }
+{
+    let third = code[2 + check::place_in(2, d)];
+    let fourth = code[2 + check::place_in(3, d)];
+    Four {
+        first: code[2],
+        second: code[3],
+        third: pick(2 < d, third, 0),
+        fourth: pick(3 < d, fourth, 0),
+    }
+}
