@@ -16,7 +16,7 @@ pub const SHEET_LIMIT: usize = 65536;
 
 // Room for the output of every sheet that is listed: a leaf's line is at most twice its record, and 32 bytes hold
 // the other lines.
-pub const TEXT_ROOM: usize = 131104;
+pub const TEXT_ROOM: usize = 2 * SHEET_LIMIT + 32;
 
 const REFUSED_LARGE: u8 = 15;
 
