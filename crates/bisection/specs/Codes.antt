@@ -53,9 +53,10 @@ pub record Name : Type 0 where
 
 -- the step from depth D: when the new level is 0, one orthant is appended
 unfoldable pub step : ℕ → ℕ → ℕ → Name → Name
-step d D b n = record
-  { entries = stepped b (splitPlace d D) (n .entries)
-  ; orthants = cond (eqb (level d (suc D)) 0) (n .orthants ++ orthant (stepped b (splitPlace d D) (n .entries)) ∷ []) (n .orthants) }
+step d D b n = record {
+  entries = stepped b (splitPlace d D) (n .entries);
+  orthants = cond (eqb (level d (suc D)) 0) (n .orthants ++ orthant (stepped b (splitPlace d D) (n .entries)) ∷ []) (n .orthants);
+}
 
 unfoldable pub nameBelow : ℕ → ℕ → Name → List ℕ → Name
 nameBelow d D n [] = n

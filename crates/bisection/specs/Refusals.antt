@@ -9,26 +9,37 @@ use Rattle.bisection.specs.Codes.{axis, minus, high, dimensionOf, depthO
 
 abbrev pub done : ℕ
 done = 0
+
 abbrev pub refusedDimension : ℕ
 refusedDimension = 1
+
 abbrev pub refusedDepth : ℕ
 refusedDepth = 2
+
 abbrev pub refusedLength : ℕ
 refusedLength = 3
+
 abbrev pub refusedPermutation : ℕ
 refusedPermutation = 4
+
 abbrev pub refusedOrthant : ℕ
 refusedOrthant = 5
+
 abbrev pub refusedSign : ℕ
 refusedSign = 6
+
 abbrev pub refusedStep : ℕ
 refusedStep = 7
+
 abbrev pub refusedFace : ℕ
 refusedFace = 8
+
 abbrev pub refusedRoot : ℕ
 refusedRoot = 9
+
 abbrev pub refusedDeepest : ℕ
 refusedDeepest = 10
+
 abbrev pub refusedShort : ℕ
 refusedShort = 11
 

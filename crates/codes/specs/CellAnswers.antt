@@ -28,10 +28,11 @@ points-few n h = mul-le-mul {n₁ = 2 * n} {m₁ = n + 1} {n₂ = 8} {m₂ = 5} 
 
 -- the entry's outcomes
 refused : (code before : List ℕ) (number : ℕ) → number ≢ 0 → number ≡ verticesRefusal code (length before) → Vertices code before (record { refusal = number; length = 0 }) before
-refused code before number h q = record
-  { answer = []
-  ; writes = record { number = q; refused = λ n. (refl, refl); written = λ n. absurd (h (q ∙ n)) }
-  ; vertices = λ n. absurd (h (q ∙ n)) }
+refused code before number h q = record {
+  answer = [];
+  writes = record { number = q; refused = λ n. (refl, refl); written = λ n. absurd (h (q ∙ n)) };
+  vertices = λ n. absurd (h (q ∙ n));
+}
 
 module _ (code before : List ℕ) where
   pub vertices-code : (number : ℕ) → number ≡ codeRefusal code → number ≢ 0 → Vertices code before (record { refusal = number; length = 0 }) before
@@ -53,15 +54,18 @@ module _ (code before : List ℕ) where
     vertices-ready h = record { passing = e; space = omega (arith, size) }
 
     pub vertices-done : 2 * n * (n + 1) ≤ length before → {after : List ℕ} → CellWritten code before after → Vertices code before (record { refusal = 0; length = 2 * n * (n + 1) }) after
-    vertices-done h w = record
-      { answer = answer
-      ; writes = record
-        { number = sym (past ∙ last-holds (leb (cellLength (dimensionOf code)) (length before)) refusedShort (le-leb (cellLength (dimensionOf code)) (length before) (omega (arith, size))))
-        ; refused = λ z. absurd (z (past ∙ last-holds (leb (cellLength (dimensionOf code)) (length before)) refusedShort (le-leb (cellLength (dimensionOf code)) (length before) (omega (arith, size)))))
-        ; written = λ z. (size ∙ sym long, rw long (w .is)) }
-      ; vertices = λ z. record { root = rootOf code; path = pathOf code; code-of = code-path code e; is = refl } }
+    vertices-done h w = record {
+      answer = answer;
+      writes = record {
+        number = sym (past ∙ last-holds (leb (cellLength (dimensionOf code)) (length before)) refusedShort (le-leb (cellLength (dimensionOf code)) (length before) (omega (arith, size))));
+        refused = λ z. absurd (z (past ∙ last-holds (leb (cellLength (dimensionOf code)) (length before)) refusedShort (le-leb (cellLength (dimensionOf code)) (length before) (omega (arith, size)))));
+        written = λ z. (size ∙ sym long, rw long (w .is));
+      };
+      vertices = λ z. record { root = rootOf code; path = pathOf code; code-of = code-path code e; is = refl };
+    }
       where
         answer : List ℕ
         answer = cellBytes (cellOf (rootOf code) (pathOf code))
+
         long : length (cellBytes (cellOf (rootOf code) (pathOf code))) ≡ cellLength (dimensionOf code)
         long = cell-length (drawn-code code e .sized)

@@ -68,6 +68,7 @@ child-length code b e = sym (simp length-append (omega (arith, p .signed .size, 
   where
     k : Checked code
     k = checked code e
+
     p : Passes (dimensionOf code) (suc (depthOf code)) (step (dimensionOf code) (depthOf code) b (partsOf code))
     p = step-passes (dimensionOf code) (depthOf code) (omega (arith, k .range .two)) (omega (arith, k .range .few)) (partsOf code) (k .good .passes) b
 

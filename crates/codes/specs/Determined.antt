@@ -69,15 +69,20 @@ code-to-path-determined {code} {roots} {paths} {root} {path} {root'} {path'} {r}
   where
     same : r .axes ≡ r' .axes → r .depth ≡ r' .depth → r ≡ r'
     same a b = λ i. record { refusal = (c .number ∙ sym (c' .number)) i; axes = a i; depth = b i }
+
     go : Dec (toPathRefusal code (length roots) (length paths) ≡ 0) → (r ≡ r') × (root ≡ root') × (path ≡ path')
-    go (yes e) = (same (w .axes ∙ ap length (p .0) ∙ sym (w' .axes)) (w .depth ∙ ap length (p .1) ∙ sym (w' .depth)),
-        w .root-written ∙ ap (λ (l : List ℕ). l ++ drop (length l) roots) (p .0) ∙ sym (w' .root-written),
-        w .path-written ∙ ap (λ (l : List ℕ). l ++ drop (length l) paths) (p .1) ∙ sym (w' .path-written))
+    go (yes e) = (
+      same (w .axes ∙ ap length (p .0) ∙ sym (w' .axes)) (w .depth ∙ ap length (p .1) ∙ sym (w' .depth)),
+      w .root-written ∙ ap (λ (l : List ℕ). l ++ drop (length l) roots) (p .0) ∙ sym (w' .root-written),
+      w .path-written ∙ ap (λ (l : List ℕ). l ++ drop (length l) paths) (p .1) ∙ sym (w' .path-written),
+    )
       where
         w : PathOf code roots paths r root path
         w = c .written e
+
         w' : PathOf code roots paths r' root' path'
         w' = c' .written e
+
         p : (w .root ≡ w' .root) × (w .path ≡ w' .path)
         p = one-path (w .code-of) (w' .code-of)
     go (no e) = (same (c .refused e .0 ∙ sym (c' .refused e .0)) (c .refused e .1 ∙ sym (c' .refused e .1)), c .refused e .2 ∙ sym (c' .refused e .2), c .refused e .3 ∙ sym (c' .refused e .3))

@@ -139,9 +139,10 @@ module _ (code : List ℕ) (n : ℕ) (e : n ≡ dimensionOf code) where
     -- the entries that the sign test reads have axes with bits
     pub axes-within : n ≤ 8 → (k : ℕ) → k ≤ n → AxesWithin k code
     unfolding permutes
-    axes-within small k l = record
-      { low = λ i h. rw (at-place code 2 i) (leb-true 1 (axis (getD (drop 2 code) i 0)) (both (leb 1 (axis (getD (drop 2 code) i 0))) (leb (axis (getD (drop 2 code) i 0)) n) (fit i h) .0))
-      ; high = λ i h. rw (at-place code 2 i) (omega (arith, leb-true (axis (getD (drop 2 code) i 0)) n (both (leb 1 (axis (getD (drop 2 code) i 0))) (leb (axis (getD (drop 2 code) i 0)) n) (fit i h) .1))) }
+    axes-within small k l = record {
+      low = λ i h. rw (at-place code 2 i) (leb-true 1 (axis (getD (drop 2 code) i 0)) (both (leb 1 (axis (getD (drop 2 code) i 0))) (leb (axis (getD (drop 2 code) i 0)) n) (fit i h) .0));
+      high = λ i h. rw (at-place code 2 i) (omega (arith, leb-true (axis (getD (drop 2 code) i 0)) n (both (leb 1 (axis (getD (drop 2 code) i 0))) (leb (axis (getD (drop 2 code) i 0)) n) (fit i h) .1)));
+    }
       where
         fit : (i : ℕ) → i < k → (leb 1 (axis (getD (drop 2 code) i 0)) && leb (axis (getD (drop 2 code) i 0)) n) ≡ true
         fit i h = both (leb 1 (axis (getD (drop 2 code) i 0)) && leb (axis (getD (drop 2 code) i 0)) n) (fresh (drop 2 code) (axis (getD (drop 2 code) i 0)) i) (each-at n (entryFits n (drop 2 code)) p i (omega arith)) .0

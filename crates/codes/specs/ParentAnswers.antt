@@ -85,6 +85,7 @@ module _ (code : List ℕ) (e : codeRefusal code ≡ 0) (l : 0 < depthOf code) w
     where
       k : Checked code
       k = checked code e
+
       p : Passes (dimensionOf code) D (parentName (dimensionOf code) D (partsOf code))
       p = parent-passes (dimensionOf code) D (omega (arith, k .range .two)) (omega (arith, k .range .few)) (partsOf code) (subst (λ (j : ℕ). Passes (dimensionOf code) j (partsOf code)) (sym more) (k .good .passes))
 

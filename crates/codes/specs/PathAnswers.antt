@@ -28,15 +28,21 @@ use Rattle.steps.specs.Climbs.{nameAbove, ClimbReady, Climbed}
 -- a root's bytes are a good root
 pub good-root : (root : List ℕ) → isDimension (length root) ≡ true → isRoot root ≡ true → GoodRoot root
 unfolding isRoot
-good-root root d e = record { dimension = d; permutation = record
-    { low = λ i l. subst (λ (a : ℕ). 1 ≤ a) (is i l) (s .low i l)
-    ; high = λ i l. subst (λ (a : ℕ). a ≤ length root) (is i l) (s .high i l)
-    ; apart = λ i j l m q. s .apart i j l m (is i l ∙ q ∙ sym (is j m)) } }
+good-root root d e = record {
+  dimension = d;
+  permutation = record {
+    low = λ i l. subst (λ (a : ℕ). 1 ≤ a) (is i l) (s .low i l);
+    high = λ i l. subst (λ (a : ℕ). a ≤ length root) (is i l) (s .high i l);
+    apart = λ i j l m q. s .apart i j l m (is i l ∙ q ∙ sym (is j m));
+  };
+}
   where
     parts : (permutes (length root) root ≡ true) × (each (length root) (λ i. not (minus (getD root i 0))) ≡ true)
     parts = both (permutes (length root) root) (each (length root) (λ i. not (minus (getD root i 0)))) e
+
     s : Signed (length root) root
     s = permutes-signed (length root) root refl (parts .0)
+
     is : (i : ℕ) → i < length root → axis (getD root i 0) ≡ getD root i 0
     is i l = plain-axis (getD root i 0) (not-true (minus (getD root i 0)) (each-at (length root) (λ j. not (minus (getD root j 0))) (parts .1) i l))
 
@@ -149,6 +155,7 @@ module _ (code roots paths : List ℕ) (e : codeRefusal code ≡ 0) (d D : ℕ) 
     where
       first : take d start ≡ take (dimensionOf code) (drop 2 code)
       first = rw start-is (take-at (take d (drop 2 code)) (drop d roots) d entries-size) ∙ ap (λ (n : ℕ). take n (drop 2 code)) ax
+
       second : take (boxDepth d D) (drop (2 + d) code) ≡ drop (2 + dimensionOf code) code
       second = take-all (boxDepth d D) (drop (2 + d) code) (rw (length-drop (2 + d) code) (unfold codeLength in omega (arith, size))) ∙ ap (λ (n : ℕ). drop (2 + n) code) ax
 
@@ -163,23 +170,31 @@ module _ (code roots paths : List ℕ) (e : codeRefusal code ≡ 0) (d D : ℕ) 
   c = code-path code e
 
   written : (root path : List ℕ) → Climbed d D code 0 start paths root path → PathOf code roots paths (record { refusal = 0; axes = d; depth = D }) root path
-  written root path w = record
-    { root = rootOf code; path = pathOf code; code-of = c
-    ; axes = ax ∙ sym root-length
-    ; depth = dp ∙ sym path-length
-    ; root-written = sym (take-append-drop d root) ∙ rw (first, w .root-rest, behind) (ap (λ (n : ℕ). rootOf code ++ drop n roots) (ax ∙ sym root-length))
-    ; path-written = sym (take-append-drop D path) ∙ rw (second, w .path-rest) (ap (λ (n : ℕ). pathOf code ++ drop n paths) (dp ∙ sym path-length)) }
+  written root path w = record {
+    root = rootOf code;
+    path = pathOf code;
+    code-of = c;
+    axes = ax ∙ sym root-length;
+    depth = dp ∙ sym path-length;
+    root-written = sym (take-append-drop d root) ∙ rw (first, w .root-rest, behind) (ap (λ (n : ℕ). rootOf code ++ drop n roots) (ax ∙ sym root-length));
+    path-written = sym (take-append-drop D path) ∙ rw (second, w .path-rest) (ap (λ (n : ℕ). pathOf code ++ drop n paths) (dp ∙ sym path-length));
+  }
     where
       root-length : length (rootOf code) ≡ dimensionOf code
       root-length = length-root c
+
       path-length : length (pathOf code) ≡ depthOf code
       path-length = length-path-of c
+
       first : take d root ≡ rootOf code
       first = unfold rootTo nameAbove rootOf in (w .the-root ∙ rw (name-is, ax, dp) refl)
+
       whole : D - 0 ≡ D
       whole = omega arith
+
       second : take D path ≡ pathOf code
       second = ap (λ (n : ℕ). take n path) (sym whole) ∙ unfold pathTo nameAbove pathOf in (w .the-path ∙ rw (name-is, ax, dp) refl)
+
       behind : drop d start ≡ drop d roots
       behind = rw start-is (drop-at (take d (drop 2 code)) (drop d roots) d entries-size)
 

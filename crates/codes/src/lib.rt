@@ -10,7 +10,6 @@ ghost use Rattle.bisection.specs.Codes.{entriesOf, orthantsOf, dimensionOf, dep
 ghost use Rattle.bisection.specs.Refusals.{done, permutes, orthantsFit, signsOwn, headRefusal, bodyRefusal, codeRefusal};
 ghost use Rattle.codes.specs.Heads.{BodyReady};
 ghost use Rattle.codes.specs.Outcomes.{HeadIs, PathToCode, CodeToPath, Vertices, Child, Parent};
-
 use bisection::DONE;
 use bisection::REFUSED_DEEPEST;
 use bisection::REFUSED_DEPTH;

@@ -66,12 +66,14 @@ module _ (code : List ℕ) (e : codeRefusal code ≡ done) where
     line-drawn j = rw (o .low, o .side, o .sign, o .place, o .split) refl
 
     pub line-fair : Fair l (dimensionOf code)
-    line-fair = record
-      { inside = rw (o .low, o .side) (omega (arith, within, cube-two-bytes, side-first))
-      ; even = λ h. rw (o .side) (side-of (dimensionOf code) (depthOf code) (omega (arith, code-dimension .two)) (good code e .depth) .even (rw (o .split) at h)) }
+    line-fair = record {
+      inside = rw (o .low, o .side) (omega (arith, within, cube-two-bytes, side-first));
+      even = λ h. rw (o .side) (side-of (dimensionOf code) (depthOf code) (omega (arith, code-dimension .two)) (good code e .depth) .even (rw (o .split) at h));
+    }
       where
         count : length (orthantsOf code) ≡ boxDepth (dimensionOf code) (depthOf code)
         count = unfold partsOf in good code e .passes .boxes .count
+
         within : boxLow (axis (getD (entriesOf code) i 0)) 0 (orthantsOf code) + boxSide (dimensionOf code) (depthOf code) ≤ sideAfter 0
         within = unfold boxSide in rw (← count) (subst (λ (n : ℕ). boxLow (axis (getD (entriesOf code) i 0)) 0 (orthantsOf code) + sideAfter n ≤ sideAfter 0) (omega arith) (low-inside (axis (getD (entriesOf code) i 0)) 0 (orthantsOf code)))
 
@@ -102,10 +104,11 @@ module _ {code : List ℕ} {n i : ℕ} (r : LineReady code n i) where
   line-room = omega (arith, code-room code (r .passing), r .below)
 
   pub line-low-ready : (a : ℕ) → a ≡ axis (getD code (2 + i) 0) → (1 ≤ a) × (a ≤ 8) × (2 + n ≤ length code)
-  line-low-ready a q =
-      ( axis-low code (r .passing) i (r .below) a q
-      , omega (arith, axis-high code (r .passing) i (r .below) a q, code-dimension code (r .passing) .few)
-      , omega (arith, r .dimension, code-room code (r .passing)) )
+  line-low-ready a q = (
+    axis-low code (r .passing) i (r .below) a q,
+    omega (arith, axis-high code (r .passing) i (r .below) a q, code-dimension code (r .passing) .few),
+    omega (arith, r .dimension, code-room code (r .passing)),
+  )
 
   pub line-depth : (D : ℕ) → D ≡ getD code 1 0 → D ≤ greatestDepth n
   line-depth D q = rw (q, r .dimension) (unfold depthOf in good code (r .passing) .depth)
@@ -113,12 +116,13 @@ module _ {code : List ℕ} {n i : ℕ} (r : LineReady code n i) where
   pub line-made : (a D : ℕ) → a ≡ axis (getD code (2 + i) 0) → D ≡ getD code 1 0 → (low side : ℕ) (m : Bool) (k : ℕ)
       → low ≡ boxLow a 0 (drop (2 + n) code) → side ≡ boxSide n D → m ≡ minus (getD code (2 + i) 0) → k ≡ splitPlace n D
       → LineOf code i (record { low = low; side = side; minus = m; place = i; split = k })
-  line-made a D qa qD low side m k el es em ek = record
-    { low = el ∙ unfold orthantsOf in rw (code-axis code (r .passing) i (r .below) a qa, r .dimension) refl
-    ; side = es ∙ unfold depthOf in rw (qD, r .dimension) refl
-    ; sign = em ∙ ap minus (code-entry code (r .passing) i (r .below))
-    ; place = refl
-    ; split = ek ∙ unfold depthOf in rw (qD, r .dimension) refl }
+  line-made a D qa qD low side m k el es em ek = record {
+    low = el ∙ unfold orthantsOf in rw (code-axis code (r .passing) i (r .below) a qa, r .dimension) refl;
+    side = es ∙ unfold depthOf in rw (qD, r .dimension) refl;
+    sign = em ∙ ap minus (code-entry code (r .passing) i (r .below));
+    place = refl;
+    split = ek ∙ unfold depthOf in rw (qD, r .dimension) refl;
+  }
 
 -- the walk over the entries: n is the dimension as the code has it
 module _ (code : List ℕ) (e : codeRefusal code ≡ done) (n : ℕ) (q : n ≡ dimensionOf code) where
@@ -127,12 +131,13 @@ module _ (code : List ℕ) (e : codeRefusal code ≡ done) (n : ℕ) (q : n ≡ 
     below = omega (arith, q)
 
     pub column-ready : (room : ℕ) → cellLength (dimensionOf code) ≤ room → ColumnReady n a l room
-    column-ready room s = rw q (record
-      { few = omega (arith, code-dimension code e .few)
-      ; low = axis-low code e i below a qa
-      ; high = axis-high code e i below a qa
-      ; space = s
-      ; fair = line-fair code e o })
+    column-ready room s = rw q (record {
+      few = omega (arith, code-dimension code e .few);
+      low = axis-low code e i below a qa;
+      high = axis-high code e i below a qa;
+      space = s;
+      fair = line-fair code e o;
+    })
 
     pub cell-next : {before now after : List ℕ} → Columns (dimensionOf code) (entriesOf code) (drawnAt code) i before now → Column n a (onLine l) (n + 1) now after → Columns (dimensionOf code) (entriesOf code) (drawnAt code) (i + 1) before after
     cell-next c p = columns-next (code-signed code e) below c a (code-axis code e i below a qa) (onLine l) (line-drawn code e o) (rw q at p)

@@ -179,23 +179,26 @@ module _ {a : ℕ} {os : List ℕ} {low side : ℕ} (code : List ℕ) (i : ℕ) 
   low-room = omega (arith, s .inside, cube-two-bytes)
 
   pub low-high : (t : Bool) → t ≡ high (getD code i 0) a → t ≡ true → LowSoFar a os (drop (i + 1) code) (low + side / 2) (side / 2)
-  low-high t e q = record
-    { past = suc (s .past)
-    ; is = omega (arith, sum, halved)
-    ; halved = halved
-    ; inside = omega (arith, s .inside) }
+  low-high t e q = record {
+    past = suc (s .past);
+    is = omega (arith, sum, halved);
+    halved = halved;
+    inside = omega (arith, s .inside);
+  }
     where
       halved : side / 2 ≡ sideAfter (suc (s .past))
       halved = rw (side-half (s .past), ← s .halved) refl
+
       sum : low + (sideAfter (suc (s .past)) + boxLow a (suc (s .past)) (drop (i + 1) code)) ≡ boxLow a 0 os
       sum = unfold boxLow in rw (← e, q) at (rw next at (s .is))
 
   pub low-plain : (t : Bool) → t ≡ high (getD code i 0) a → t ≡ false → LowSoFar a os (drop (i + 1) code) low (side / 2)
-  low-plain t e q = record
-    { past = suc (s .past)
-    ; is = omega (arith, sum)
-    ; halved = rw (side-half (s .past), ← s .halved) refl
-    ; inside = omega (arith, s .inside) }
+  low-plain t e q = record {
+    past = suc (s .past);
+    is = omega (arith, sum);
+    halved = rw (side-half (s .past), ← s .halved) refl;
+    inside = omega (arith, s .inside);
+  }
     where
       sum : low + (0 + boxLow a (suc (s .past)) (drop (i + 1) code)) ≡ boxLow a 0 os
       sum = unfold boxLow in rw (← e, q) at (rw next at (s .is))

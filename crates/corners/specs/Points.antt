@@ -29,17 +29,20 @@ pub record Put (n x : ℕ) (before after : List ℕ) : Type 0 where
   pub elsewhere : (p : ℕ) → p ≢ 2 * n → p ≢ 2 * n + 1 → getD after p 0 ≡ getD before p 0
 
 pub put-done : (n x : ℕ) (l : List ℕ) → 2 * n + 1 < length l → Put n x l (set (set l (2 * n) (x % 256)) (2 * n + 1) (x / 256))
-put-done n x l h = record
-  { size = simp length-set
-  ; here = record
-    { low = getD-set-other (set l (2 * n) (x % 256)) (2 * n + 1) (2 * n) (x / 256) 0 (omega arith) ∙ getD-set-same l (2 * n) (x % 256) 0 (omega arith)
-    ; high = getD-set-same (set l (2 * n) (x % 256)) (2 * n + 1) (x / 256) 0 (simp length-set h) }
-  ; elsewhere = λ p a b. getD-set-other (set l (2 * n) (x % 256)) (2 * n + 1) p (x / 256) 0 b ∙ getD-set-other l (2 * n) p (x % 256) 0 a }
+put-done n x l h = record {
+  size = simp length-set;
+  here = record {
+    low = getD-set-other (set l (2 * n) (x % 256)) (2 * n + 1) (2 * n) (x / 256) 0 (omega arith) ∙ getD-set-same l (2 * n) (x % 256) 0 (omega arith);
+    high = getD-set-same (set l (2 * n) (x % 256)) (2 * n + 1) (x / 256) 0 (simp length-set h);
+  };
+  elsewhere = λ p a b. getD-set-other (set l (2 * n) (x % 256)) (2 * n + 1) p (x / 256) 0 b ∙ getD-set-other l (2 * n) p (x % 256) 0 a;
+}
 
 pub put-keeps : {n x : ℕ} {before after : List ℕ} → Put n x before after → (m y : ℕ) → m ≢ n → Holds before m y → Holds after m y
-put-keeps {n} p m y h q = record
-  { low = p .elsewhere (2 * m) (λ e. h (omega arith)) (λ e. omega arith) ∙ q .low
-  ; high = p .elsewhere (2 * m + 1) (λ e. omega arith) (λ e. h (omega arith)) ∙ q .high }
+put-keeps {n} p m y h q = record {
+  low = p .elsewhere (2 * m) (λ e. h (omega arith)) (λ e. omega arith) ∙ q .low;
+  high = p .elsewhere (2 * m + 1) (λ e. omega arith) (λ e. h (omega arith)) ∙ q .high;
+}
 
 -- the number of a coordinate
 abbrev pub spot : ℕ → ℕ → ℕ → ℕ
@@ -83,11 +86,12 @@ pub column-none : (d a : ℕ) (x : ℕ → ℕ) (l : List ℕ) → Column d a x 
 column-none d a x l = record { size = refl; here = λ j h. absurd (omega arith); others = λ j b l u h y q. q; past = λ p h. refl }
 
 pub column-next : {d a : ℕ} {x : ℕ → ℕ} {n : ℕ} {before l after : List ℕ} → 1 ≤ a → a ≤ d → n ≤ d → Column d a x n before l → (y : ℕ) → y ≡ x n → Put (spot d n a) y l after → Column d a x (n + 1) before after
-column-next {d} {a} {x} {n} {before} {l} {after} lo hi nd c y e p = record
-  { size = p .size ∙ c .size
-  ; here = λ j h. go j h (ℕ-discrete j n)
-  ; others = λ j b l' u' h z q. put-keeps p (spot d j b) z (spot-other d j n a b lo hi l' u' h) (c .others j b l' u' h z q)
-  ; past = λ q h. p .elsewhere q (λ s. omega (arith, spot-under d n a lo hi nd)) (λ s. omega (arith, spot-under d n a lo hi nd)) ∙ c .past q h }
+column-next {d} {a} {x} {n} {before} {l} {after} lo hi nd c y e p = record {
+  size = p .size ∙ c .size;
+  here = λ j h. go j h (ℕ-discrete j n);
+  others = λ j b l' u' h z q. put-keeps p (spot d j b) z (spot-other d j n a b lo hi l' u' h) (c .others j b l' u' h z q);
+  past = λ q h. p .elsewhere q (λ s. omega (arith, spot-under d n a lo hi nd)) (λ s. omega (arith, spot-under d n a lo hi nd)) ∙ c .past q h;
+}
   where
     go : (j : ℕ) → j < n + 1 → Dec (j ≡ n) → Holds after (spot d j a) (x j)
     go j h (yes s) = rw s (rw (← e) (p .here))
@@ -145,14 +149,17 @@ module _ {d : ℕ} {vs : Cell} (z : Sized d vs) where
   cell-length = cell-size d vs dims-of ∙ ap (λ (n : ℕ). n * (2 * d)) (z .size)
 
   pub cell-holds : (j a : ℕ) → j ≤ d → 1 ≤ a → a ≤ d → Holds (cellBytes vs) (spot d j a) (along vs a j)
-  cell-holds j a h l u = record
-    { low = ap (λ (n : ℕ). getD (cellBytes vs) n 0) place ∙ cell-at d vs dims-of j inside (2 * (a - 1)) (omega arith) ∙ point-holds (vertex vs j) (a - 1) .low
-    ; high = ap (λ (n : ℕ). getD (cellBytes vs) n 0) next ∙ cell-at d vs dims-of j inside (2 * (a - 1) + 1) (omega arith) ∙ point-holds (vertex vs j) (a - 1) .high }
+  cell-holds j a h l u = record {
+    low = ap (λ (n : ℕ). getD (cellBytes vs) n 0) place ∙ cell-at d vs dims-of j inside (2 * (a - 1)) (omega arith) ∙ point-holds (vertex vs j) (a - 1) .low;
+    high = ap (λ (n : ℕ). getD (cellBytes vs) n 0) next ∙ cell-at d vs dims-of j inside (2 * (a - 1) + 1) (omega arith) ∙ point-holds (vertex vs j) (a - 1) .high;
+  }
     where
       inside : j < length vs
       inside = omega (arith, z .size)
+
       place : 2 * (j * d + (a - 1)) ≡ j * (2 * d) + 2 * (a - 1)
       place = omega (arith, mul-left-comm j 2 d)
+
       next : 2 * (j * d + (a - 1)) + 1 ≡ j * (2 * d) + (2 * (a - 1) + 1)
       next = omega (arith, mul-left-comm j 2 d)
 
@@ -181,10 +188,11 @@ columns-none d es x l = record { size = refl; filled = λ t h. absurd (omega ari
 
 pub columns-next : {d : ℕ} {es : List ℕ} {x : ℕ → ℕ → ℕ} {i : ℕ} {before l after : List ℕ} → Signed d es → i < d → Columns d es x i before l
     → (a : ℕ) → a ≡ axis (getD es i 0) → (y : ℕ → ℕ) → ((j : ℕ) → y j ≡ x i j) → Column d a y (d + 1) l after → Columns d es x (i + 1) before after
-columns-next {d} {es} {x} {i} {before} {l} {after} g h c a e y same p = record
-  { size = p .size ∙ c .size
-  ; filled = λ t q j r. go t q j r (ℕ-discrete t i)
-  ; past = λ q r. p .past q r ∙ c .past q r }
+columns-next {d} {es} {x} {i} {before} {l} {after} g h c a e y same p = record {
+  size = p .size ∙ c .size;
+  filled = λ t q j r. go t q j r (ℕ-discrete t i);
+  past = λ q r. p .past q r ∙ c .past q r;
+}
   where
     go : (t : ℕ) → t < i + 1 → (j : ℕ) → j ≤ d → Dec (t ≡ i) → Holds after (spot d j (axis (getD es t 0))) (x t j)
     go t q j r (yes s) = rw (s, ← e, ← same j) (p .here j (omega arith))
@@ -198,28 +206,37 @@ columns-all {d} {es} {x} {before} {after} d0 g vs z is room c = ext-getD 0 after
   where
     sizes : length after ≡ length (cellBytes vs ++ drop (cellLength d) before)
     sizes = simp (length-append, length-drop) (omega (arith, c .size, cell-length z))
+
     front : (p : ℕ) → p < cellLength d → getD after p 0 ≡ getD (cellBytes vs) p 0
     front p h = same-bytes after (cellBytes vs) (spot d j (r + 1)) (along vs (r + 1) j) held (cell-holds z j (r + 1) jd (omega arith) (omega (arith, rd))) p at
       where
         j : ℕ
         j = p / 2 / d
+
         r : ℕ
         r = p / 2 % d
+
         rd : r < d
         rd = mod-lt (p / 2) d0
+
         jd : j ≤ d
         jd = omega (arith, div-lt-iff-lt-mul {k = d} {x = p / 2} {y = suc d} d0 .1 (omega (arith, cell-twice d)))
+
         at : p / 2 ≡ spot d j (r + 1)
         at = omega (arith, div-add-mod' (p / 2) d)
+
         t : Stands es (r + 1) d
         t = stands g (r + 1) (omega arith) (omega (arith, rd))
+
         held : Holds after (spot d j (r + 1)) (along vs (r + 1) j)
         held = subst (λ (a : ℕ). Holds after (spot d j a) (along vs a j)) (t .is) (rw (is (t .place) (t .below) j jd) (c .filled (t .place) (t .below) j jd))
+
     go : (p : ℕ) → Dec (p < cellLength d) → getD after p 0 ≡ getD (cellBytes vs ++ drop (cellLength d) before) p 0
     go p (yes h) = front p h ∙ sym (List·getD-append (cellBytes vs) (drop (cellLength d) before) 0 p (omega (arith, cell-length z)))
     go p (no h) = c .past p (omega arith) ∙ sym (ap (λ (n : ℕ). getD (cellBytes vs ++ drop (cellLength d) before) n 0) at ∙ getD-append-add (cellBytes vs) (drop (cellLength d) before) (p - cellLength d) 0 ∙ getD-drop (cellLength d) before (p - cellLength d) 0 ∙ ap (λ (n : ℕ). getD before n 0) back)
       where
         at : p ≡ length (cellBytes vs) + (p - cellLength d)
         at = omega (arith, cell-length z)
+
         back : cellLength d + (p - cellLength d) ≡ p
         back = omega arith

@@ -10,7 +10,6 @@ ghost use Rattle.bisection.specs.Theorems.Drawn.{boxLow};
 ghost use Rattle.corners.specs.Lines.{signedStep, MovesTo, Fair, onLine, LineReady, LineOf};
 ghost use Rattle.corners.specs.Points.{Put, Column, ColumnReady};
 ghost use Rattle.corners.specs.Drawing.{CellReady, CellWritten};
-
 use dimension::Dim;
 
 // What gives the vertices their coordinates on one axis: the box's low side there and its side, the sign and the

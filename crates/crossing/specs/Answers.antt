@@ -51,10 +51,11 @@ module _ (code : List ℕ) (p : codeRefusal code ≡ done) (i : ℕ) (il : i ≤
 
 module _ {code before : List ℕ} {i : ℕ} {r : Crossed} where
   pub refused-own : (x : ℕ) → x ≡ codeRefusal code → x ≢ 0 → r .refusal ≡ x → r .place ≡ 0 → r .length ≡ 0 → Crosses code i before r before
-  refused-own x e n f g h = record
-    { own = λ q. refuses (codeRefusal code) (f ∙ e) g h
-    ; above = λ p l. absurd (n (e ∙ p))
-    ; meets = λ p l. absurd (n (e ∙ p)) }
+  refused-own x e n f g h = record {
+    own = λ q. refuses (codeRefusal code) (f ∙ e) g h;
+    above = λ p l. absurd (n (e ∙ p));
+    meets = λ p l. absurd (n (e ∙ p));
+  }
 
   module _ (p : codeRefusal code ≡ done) where
     pub refused-above : dimensionOf code < i → r .refusal ≡ 7 → r .place ≡ 0 → r .length ≡ 0 → Crosses code i before r before

@@ -21,12 +21,14 @@ bit-flipped u true = xor-step (2 * u + 1) 1 ∙ rw (half, odd, xor-zero-r u) (om
   where
     half : (2 * u + 1) / 2 ≡ u
     half = omega arith
+
     odd : (2 * u + 1) % 2 ≡ 1
     odd = omega arith
 bit-flipped u false = xor-step (2 * u + 0) 1 ∙ rw (half, even, xor-zero-r u) (omega arith)
   where
     half : (2 * u + 0) / 2 ≡ u
     half = omega arith
+
     even : (2 * u + 0) % 2 ≡ 0
     even = omega arith
 
@@ -36,8 +38,10 @@ flipped-as o a h l = rw (shifted-bit (a - 1) (omega arith)) (ap (λ (x : ℕ). b
   where
     p : Parts a o
     p = parts a o
+
     whole : ℕ
     whole = (2 * p .above + digit (p .bit)) * 2 ^ (a - 1) + p .below
+
     one : 2 ^ (a - 1) ≡ 1 * 2 ^ (a - 1) + 0
     one = omega arith
 
@@ -74,6 +78,7 @@ module _ (up : Bool) (a : ℕ) (l : List ℕ) where
       where
         there : from + (u - from) ≡ u
         there = omega arith
+
         parts-of : drop from l ≡ take (u - from) (drop from l) ++ drop u l
         parts-of = sym (take-append-drop (u - from) (drop from l)) ∙ ap (λ (m : List ℕ). take (u - from) (drop from l) ++ m) (drop-drop (u - from) from l ∙ ap (λ (j : ℕ). drop j l) there)
 
@@ -139,6 +144,7 @@ module _ (n : ℕ) (up : Bool) (a : ℕ) (l : List ℕ) (room : n ≤ length l) 
       where
         first : take u l ≡ take from l ++ slice from u l
         first = sym (take-append-drop from (take u l)) ∙ ap (λ (m : List ℕ). m ++ slice from u l) (take-take from u l (omega arith))
+
         middle : slice from n l ≡ slice from u l ++ slice u n l
         middle = ap (drop from) (sym (take-append-drop u (take n l)) ∙ ap (λ (m : List ℕ). m ++ slice u n l) (take-take u n l (omega arith))) ∙ drop-append-le from (take u l) (slice u n l) (omega (arith, length-take-le u l (omega arith)))
 

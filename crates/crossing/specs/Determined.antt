@@ -33,15 +33,20 @@ apart {code' = code'} w b = w .alone code' (b .across .shares)
 
 module _ {before : List ℕ} {r : Crossed} {after : List ℕ} {r' : Crossed} {after' : List ℕ} where
   refuses-same : {x : ℕ} → Refuses x before r after → Refuses x before r' after' → Same r after r' after'
-  refuses-same a b = record
-    { refusal = a .number ∙ sym (b .number); place = a .place ∙ sym (b .place)
-    ; size = a .size ∙ sym (b .size); buffer = a .kept ∙ sym (b .kept) }
+  refuses-same a b = record {
+    refusal = a .number ∙ sym (b .number);
+    place = a .place ∙ sym (b .place);
+    size = a .size ∙ sym (b .size);
+    buffer = a .kept ∙ sym (b .kept);
+  }
 
   gives-same : {code' code'' : List ℕ} {j j' : ℕ} → code' ≡ code'' → j ≡ j' → Gives code' j before r after → Gives code'' j' before r' after' → Same r after r' after'
-  gives-same e f a b = record
-    { refusal = a .number ∙ sym (b .number); place = a .place ∙ f ∙ sym (b .place)
-    ; size = a .size ∙ ap length e ∙ sym (b .size)
-    ; buffer = a .written ∙ ap (λ (c : List ℕ). c ++ drop (length c) before) e ∙ sym (b .written) }
+  gives-same e f a b = record {
+    refusal = a .number ∙ sym (b .number);
+    place = a .place ∙ f ∙ sym (b .place);
+    size = a .size ∙ ap length e ∙ sym (b .size);
+    buffer = a .written ∙ ap (λ (c : List ℕ). c ++ drop (length c) before) e ∙ sym (b .written);
+  }
 
   module _ {code : List ℕ} {i : ℕ} (il : i ≤ dimensionOf code) where
     meets-same : Meets code i before r after → Meets code i before r' after' → Same r after r' after'
@@ -79,12 +84,19 @@ given-done {code} {i} {before} {r} {after} a e = go (ℕ-discrete (codeRefusal c
   where
     never : {x : ℕ} → x ≢ 0 → Refuses x before r after → ⊥
     never n q = n (sym (q .number) ∙ e)
+
     met : i ≤ dimensionOf code → Meets code i before r after → Given code i before r after
     met l (wall w q) = absurd (never (omega arith) q)
     met l (short c j b h q) = absurd (never (omega arith) q)
-    met l (crossed c j b h q) = record
-      { code' = c; facet = l; across = rw (q .place) (b .across)
-      ; front = ap (take (r .length)) (q .written) ∙ take-at c (drop (length c) before) (r .length) (sym (q .size)); size = q .size; fits = h }
+    met l (crossed c j b h q) = record {
+      code' = c;
+      facet = l;
+      across = rw (q .place) (b .across);
+      front = ap (take (r .length)) (q .written) ∙ take-at c (drop (length c) before) (r .length) (sym (q .size));
+      size = q .size;
+      fits = h;
+    }
+
     go : Dec (codeRefusal code ≡ done) → Dec (dimensionOf code < i) → Given code i before r after
     go (no n) l = absurd (never n (a .own n))
     go (yes p) (yes l) = absurd (never (omega arith) (a .above p l))
@@ -110,9 +122,11 @@ module _ {code : List ℕ} {i : ℕ} {before : List ℕ} {r : Crossed} {after : 
     met-back : Meets (there .code') (r .place) before' r' after' → Back code i r' after'
     met-back (wall w q) = absurd (w .alone code (home .shares))
     met-back (short c j b h q) = absurd (omega (arith, ap length (across-determined within (b .across) home .0)))
-    met-back (crossed c j b h q) = record
-      { refusal = q .number; place = q .place ∙ across-determined within (b .across) home .1
-      ; front = ap (take (r' .length)) (q .written) ∙ take-at c (drop (length c) before') (r' .length) (sym (q .size)) ∙ across-determined within (b .across) home .0 }
+    met-back (crossed c j b h q) = record {
+      refusal = q .number;
+      place = q .place ∙ across-determined within (b .across) home .1;
+      front = ap (take (r' .length)) (q .written) ∙ take-at c (drop (length c) before') (r' .length) (sym (q .size)) ∙ across-determined within (b .across) home .0;
+    }
 
     pub crossing-back : Crosses (take (r .length) after) (r .place) before' r' after' → Back code i r' after'
     crossing-back b = met-back ((subst (λ (c : List ℕ). Crosses c (r .place) before' r' after') (there .front) b) .meets (cell-passes (there .across .shares .cell')) within)

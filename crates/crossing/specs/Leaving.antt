@@ -71,38 +71,52 @@ module _ (code : List ℕ) (p : codeRefusal code ≡ done) where
 
   pub leaving-far : (i e : ℕ) → i ≡ dimensionOf code → e ≡ getD code (2 + (dimensionOf code - 1)) 0 → Leaving code (dimensionOf code) (dimensionOf code - 1) e i
   unfolding d es blocked acrossName newPlace moveOf partsOf
-  leaving-far i e q f = rw (f, entry-of (dimensionOf code - 1) (omega (arith, some))) (record
-    { passes = p; axes = refl; facet = omega arith; place = omega (arith, some)
-    ; low = rw (← entry-of (dimensionOf code - 1) (omega (arith, some))) (entry-low (dimensionOf code - 1) (omega (arith, some)))
-    ; high = rw (← entry-of (dimensionOf code - 1) (omega (arith, some))) (entry-high (dimensionOf code - 1) (omega (arith, some)))
-    ; wall = rw row (unfold blockedBy in refl)
-    ; entries = rw row (unfold entriesBy in refl)
-    ; orthants = rw row (unfold orthantsBy in refl)
-    ; new = rw row (unfold newAt in sym q) })
+  leaving-far i e q f = rw (f, entry-of (dimensionOf code - 1) (omega (arith, some))) (record {
+    passes = p;
+    axes = refl;
+    facet = omega arith;
+    place = omega (arith, some);
+    low = rw (← entry-of (dimensionOf code - 1) (omega (arith, some))) (entry-low (dimensionOf code - 1) (omega (arith, some)));
+    high = rw (← entry-of (dimensionOf code - 1) (omega (arith, some))) (entry-high (dimensionOf code - 1) (omega (arith, some)));
+    wall = rw row (unfold blockedBy in refl);
+    entries = rw row (unfold entriesBy in refl);
+    orthants = rw row (unfold orthantsBy in refl);
+    new = rw row (unfold newAt in sym q);
+  })
     where
       row : move (dimensionOf code) (splitPlace (dimensionOf code) (depthOf code)) i (nextOwn (splitPlace (dimensionOf code) (depthOf code)) (record { entries = entriesOf code; orthants = orthantsOf code })) ≡ farther
       row = unfold move in rw (eq-eqb i (dimensionOf code) q) refl
 
   pub leaving-near : (i e : ℕ) → i ≡ 0 → splitPlace (dimensionOf code) (depthOf code) ≡ dimensionOf code → e ≡ negated (getD code (2 + 0) 0) → Leaving code (dimensionOf code) 0 e i
   unfolding d es blocked acrossName newPlace moveOf partsOf
-  leaving-near i e q s f = rw (f, entry-of 0 some) (record
-    { passes = p; axes = refl; facet = omega arith; place = some
-    ; low = rw same (omega (arith, signed-low)); high = rw same (omega (arith, signed-high, k .range .few))
-    ; wall = rw (row, same, turns) (unfold blockedBy in refl)
-    ; entries = rw row (unfold entriesBy in refl)
-    ; orthants = rw (row, same, turns) (unfold orthantsBy in refl)
-    ; new = rw row (unfold newAt in sym q) })
+  leaving-near i e q s f = rw (f, entry-of 0 some) (record {
+    passes = p;
+    axes = refl;
+    facet = omega arith;
+    place = some;
+    low = rw same (omega (arith, signed-low));
+    high = rw same (omega (arith, signed-high, k .range .few));
+    wall = rw (row, same, turns) (unfold blockedBy in refl);
+    entries = rw row (unfold entriesBy in refl);
+    orthants = rw (row, same, turns) (unfold orthantsBy in refl);
+    new = rw row (unfold newAt in sym q);
+  })
     where
       signed-low : 1 ≤ axis (getD (entriesOf code) 0 0)
       signed-low = k .good .passes .signed .low 0 some
+
       signed-high : axis (getD (entriesOf code) 0 0) ≤ dimensionOf code
       signed-high = k .good .passes .signed .high 0 some
+
       small : axis (getD (entriesOf code) 0 0) < 128
       small = omega (arith, signed-high, k .range .few)
+
       same : axis (negated (getD (entriesOf code) 0 0)) ≡ axis (getD (entriesOf code) 0 0)
       same = axis-negated (getD (entriesOf code) 0 0) small
+
       turns : minus (negated (getD (entriesOf code) 0 0)) ≡ not (minus (getD (entriesOf code) 0 0))
       turns = minus-negated (getD (entriesOf code) 0 0) small
+
       row : move (dimensionOf code) (splitPlace (dimensionOf code) (depthOf code)) i (nextOwn (splitPlace (dimensionOf code) (depthOf code)) (record { entries = entriesOf code; orthants = orthantsOf code })) ≡ nearer
       row = unfold move in rw (ne-eqb i (dimensionOf code) (omega (arith, some)), eq-eqb i 0 q, eq-eqb (splitPlace (dimensionOf code) (depthOf code)) (dimensionOf code) s) refl
 
@@ -124,8 +138,10 @@ carried-held up a head os rest from n e f = rw (take-at head (os ++ rest) from e
   where
     joined : head ++ (os ++ rest) ≡ (head ++ os) ++ rest
     joined = sym (append-assoc head os rest)
+
     middle : slice from n (head ++ (os ++ rest)) ≡ os
     middle = ap (drop from) (ap (take n) joined ∙ take-at (head ++ os) rest n f) ∙ drop-at head os from e
+
     behind : drop n (head ++ (os ++ rest)) ≡ rest
     behind = ap (drop n) joined ∙ drop-at (head ++ os) rest n f
 
@@ -162,6 +178,7 @@ module _ {code : List ℕ} {d at e i : ℕ} (r : Leaving code d at e i) where
         where
           all : 2 + d ≡ length code
           all = omega (arith, leaving-room)
+
           none : drop (2 + d) code ≡ []
           none = ap (λ (n : ℕ). drop n code) all ∙ drop-length code
 
@@ -197,8 +214,8 @@ module _ {code : List ℕ} {d at e i : ℕ} (r : Leaving code d at e i) where
     unfolding head m negatedAt
     stored = ap (λ (l : List ℕ). set (l ++ rest) (2 + at) v) (k' .good .is) ∙ (unfold bytes in rw there (ap (λ (l : List ℕ). dimensionOf code ∷ depthOf code ∷ l)
         (ap (λ (l : List ℕ). set l at v) (append-assoc ((partsOf code) .entries) ((partsOf code) .orthants) rest)
-          ∙ set-append-left ((partsOf code) .entries) ((partsOf code) .orthants ++ rest) at v (omega (arith, sized, r .place, r .axes))
-          ∙ ap (λ (x : ℕ). set ((partsOf code) .entries) at x ++ ((partsOf code) .orthants ++ rest)) (f ∙ ap negated entry-there))))
+        ∙ set-append-left ((partsOf code) .entries) ((partsOf code) .orthants ++ rest) at v (omega (arith, sized, r .place, r .axes))
+        ∙ ap (λ (x : ℕ). set ((partsOf code) .entries) at x ++ ((partsOf code) .orthants ++ rest)) (f ∙ ap negated entry-there))))
 
     written : carriedIn (2 + d) (length code) (minus e) (axis e) (set (code ++ rest) (2 + at) v) ≡ tableCode code i ++ rest
     unfolding head m bytes partsOf
@@ -208,10 +225,13 @@ module _ {code : List ℕ} {d at e i : ℕ} (r : Leaving code d at e i) where
       where
         n : Name
         n = acrossName (dimensionOf code) (depthOf code) i (partsOf code)
+
         both : n .entries ++ n .orthants ≡ negatedAt at (entriesOf code) ++ carried (minus e) (axis e) (orthantsOf code)
         both = ap (λ (l : List ℕ). l ++ n .orthants) (r .entries) ∙ ap (λ (l : List ℕ). negatedAt at (entriesOf code) ++ l) (r .orthants)
+
         front : length head ≡ 2 + d
         front = omega (arith, sized, r .axes, negatedAt-length at ((partsOf code) .entries))
+
         whole : length (head ++ (partsOf code) .orthants) ≡ length code
         whole = simp length-append (omega (arith, ap length (k' .good .is), length-append ((partsOf code) .entries) ((partsOf code) .orthants), negatedAt-length at ((partsOf code) .entries)))
 

@@ -33,6 +33,7 @@ exchange-is l i h = rw there (set-places l (i - 1) i (getD l (2 + i) 0) (getD l 
   where
     there : 1 + i ≡ 2 + (i - 1)
     there = omega arith
+
     last : atPlace 2 (λ m. set (set m (i - 1) (getD (drop 2 l) i 0)) i (getD (drop 2 l) (i - 1) 0)) l ≡ atPlace 2 (λ m. set (set m (i - 1) (getD m i 0)) i (getD m (i - 1) 0)) l
     last = unfold atPlace in refl
 
@@ -59,10 +60,13 @@ traded-as k es h l = ext-getD 0 (traded k es) (negatedAt 0 (negatedAt k (exchang
   where
     x : List ℕ
     x = exchanged 0 k es
+
     size : length (negatedAt 0 (negatedAt k x)) ≡ length es
     size = negatedAt-length 0 (negatedAt k x) ∙ negatedAt-length k x ∙ exchanged-length 0 k es
+
     in-x : k < length x
     in-x = omega (arith, exchanged-length 0 k es)
+
     go : (q : ℕ) → Dec (q ≡ 0) → Dec (q ≡ k) → getD (set (set es 0 (negated (getD es k 0))) k (negated (getD es 0 0))) q 0 ≡ getD (negatedAt 0 (negatedAt k x)) q 0
     go q (yes e) f = rw e (getD-set-other (set es 0 (negated (getD es k 0))) k 0 (negated (getD es 0 0)) 0 (omega arith) ∙ getD-set-same es 0 (negated (getD es k 0)) 0 (omega arith)
         ∙ sym (negatedAt-at 0 (negatedAt k x) 0 refl (omega (arith, negatedAt-length k x, in-x)) ∙ ap negated (negatedAt-other k x 0 (omega arith) ∙ exchanged-first 0 k es (omega arith) l (omega arith))))

@@ -130,11 +130,15 @@ module _ {code : List ℕ} {d k i : ℕ} (r : Staying code d k i) where
 
     movable : Movable k i l
     unfolding l es dim m
-    movable = record
-      { d = dimensionOf code; few = omega (arith, c .range .few)
-      ; room = simp length-append (omega (arith, sized))
-      ; signed = rw (take-at ((partsOf code) .entries) (os ++ rest) (dimensionOf code) sized) (c .good .passes .signed)
-      ; split = range .0; inside = omega (arith, r .inside, r .axes); first = λ e. omega (arith, r .first e, r .axes) }
+    movable = record {
+      d = dimensionOf code;
+      few = omega (arith, c .range .few);
+      room = simp length-append (omega (arith, sized));
+      signed = rw (take-at ((partsOf code) .entries) (os ++ rest) (dimensionOf code) sized) (c .good .passes .signed);
+      split = range .0;
+      inside = omega (arith, r .inside, r .axes);
+      first = λ e. omega (arith, r .first e, r .axes);
+    }
 
     pub staying-movable : Movable k i (code ++ drop (length code) out)
     staying-movable = rw copy-is movable
@@ -145,6 +149,7 @@ module _ {code : List ℕ} {d k i : ℕ} (r : Staying code d k i) where
       where
         two : 2 + k ≡ suc (suc k)
         two = omega arith
+
         entry : getD (dimensionOf code ∷ depthOf code ∷ (entriesOf code ++ (os ++ rest))) (2 + k) 0 ≡ getD (entriesOf code) k 0
         entry = rw two (List·getD-append (entriesOf code) (os ++ rest) 0 k (omega (arith, sized)))
 

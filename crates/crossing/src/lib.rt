@@ -15,7 +15,6 @@ ghost use Rattle.crossing.specs.Carrying.{carriedIn};
 ghost use Rattle.crossing.specs.Rearranging.{traded, ownNext, Rearranges, Movable, MovableAt, within};
 ghost use Rattle.crossing.specs.Leaving.{Leaving};
 ghost use Rattle.crossing.specs.Staying.{Staying};
-
 use bisection::DONE;
 use bisection::REFUSED_FACE;
 use bisection::REFUSED_SHORT;

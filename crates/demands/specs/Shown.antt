@@ -83,7 +83,7 @@ path-row : {root path code : List ℕ} → PathShown root path code → Answers 
 unfolding Answers
 path-row {root} {path} {code} a before room = done-writes (pathRefusal root path (length before)) (length code)
     (path-0 root path (length before) (a .dimension) (leb-true (length path) (greatestDepth (length root)) (a .depth)) (a .good) (a .steps)
-        (subst (λ (n : ℕ). n ≤ length before) (sym (size ∙ ap length (a .is))) room))
+    (subst (λ (n : ℕ). n ≤ length before) (sym (size ∙ ap length (a .is))) room))
     (ap length (sym (a .is))) (ap (λ (c : List ℕ). c ++ drop (length code) before) (sym (a .is)))
   where
     size : codeLength (length root) (length path) ≡ length (codeOf root path)
@@ -91,47 +91,54 @@ path-row {root} {path} {code} a before room = done-writes (pathRefusal root path
 
 cell-row : {code : List ℕ} {cell : Cell} → CellShown code cell → Answers (Vertices code) (cellBytes cell)
 unfolding Answers verticesRefusal
-cell-row {code} {cell} a before room = record
-    { answer = cellBytes cell
-    ; writes = done-writes (verticesRefusal code (length before)) (length (cellBytes cell))
-        (first-done (codeRefusal code) (need (leb (cellLength (dimensionOf code)) (length before)) refusedShort) (a .passes)
-            ∙ last-holds (leb (cellLength (dimensionOf code)) (length before)) refusedShort
-                (le-leb (cellLength (dimensionOf code)) (length before) (subst (λ (n : ℕ). n ≤ length before) (sym (a .size)) room)))
-        refl refl
-    ; vertices = λ q. record { root = rootOf code; path = pathOf code; code-of = code-path code (a .passes); is = ap cellBytes (sym (a .is)) } }
+cell-row {code} {cell} a before room = record {
+  answer = cellBytes cell;
+  writes = done-writes (verticesRefusal code (length before)) (length (cellBytes cell))
+      (first-done (codeRefusal code) (need (leb (cellLength (dimensionOf code)) (length before)) refusedShort) (a .passes)
+      ∙ last-holds (leb (cellLength (dimensionOf code)) (length before)) refusedShort
+      (le-leb (cellLength (dimensionOf code)) (length before) (subst (λ (n : ℕ). n ≤ length before) (sym (a .size)) room)))
+      refl refl;
+  vertices = λ q. record { root = rootOf code; path = pathOf code; code-of = code-path code (a .passes); is = ap cellBytes (sym (a .is)) };
+}
 
 child-row : {code : List ℕ} {which : ℕ} {answer : List ℕ} → ChildShown code which answer → Answers (Child code which) answer
 unfolding Answers
 child-row {code} {which} {answer} a before room = done-writes (childRefusal code which (length before)) (length answer)
     (child-0 code which (length before) (a .passes) (leb-true which 1 (a .step)) (leb-true (suc (depthOf code)) (greatestDepth (dimensionOf code)) (a .deeper))
-        (subst (λ (n : ℕ). n ≤ length before) (sym (child-length code which (a .passes) ∙ ap length (a .is))) room))
+    (subst (λ (n : ℕ). n ≤ length before) (sym (child-length code which (a .passes) ∙ ap length (a .is))) room))
     (ap length (sym (a .is))) (ap (λ (c : List ℕ). c ++ drop (length answer) before) (sym (a .is)))
 
 cross-row : {code : List ℕ} {i : ℕ} {answer : List ℕ} {place : ℕ} → CrossShown code i answer place → Holds (cross code i answer place)
 unfolding Holds
-cross-row {code} {i} {answer} {place} a before room = record
-    { own = λ n. absurd (n (a .passes))
-    ; above = λ e l. absurd (omega (arith, il, l))
-    ; meets = λ e l. crossed answer place (record { vs = cellOf (rootOf code) (pathOf code); cell = c; free = λ w. absurd (wrong (sym (face-is-blocked c i il w) ∙ a .free)); across = across }) room (record { number = refl; place = refl; size = refl; written = refl }) }
+cross-row {code} {i} {answer} {place} a before room = record {
+  own = λ n. absurd (n (a .passes));
+  above = λ e l. absurd (omega (arith, il, l));
+  meets = λ e l. crossed answer place (record { vs = cellOf (rootOf code) (pathOf code); cell = c; free = λ w. absurd (wrong (sym (face-is-blocked c i il w) ∙ a .free)); across = across }) room (record { number = refl; place = refl; size = refl; written = refl });
+}
   where
     c : IsCell code (cellOf (rootOf code) (pathOf code))
     c = code-cell code (a .passes)
+
     il : i ≤ dimensionOf code
     il = leb-true i (dimensionOf code) (a .facet)
+
     wrong : true ≡ false → ⊥
     wrong e = subst T e tt
+
     across : Across code i answer place
     across = subst (λ (j : ℕ). Across code i answer j) (a .at) (subst (λ (l : List ℕ). Across code i l (tablePlace code i)) (a .is) (across-unblocked c i il (a .free)))
 
 wall-row : {code : List ℕ} {i : ℕ} → WallShown code i → Holds (walled code i)
 unfolding Holds
-wall-row {code} {i} a before = record
-    { own = λ n. absurd (n (a .passes))
-    ; above = λ e l. absurd (omega (arith, il, l))
-    ; meets = λ e l. wall (record { vs = cellOf (rootOf code) (pathOf code); cell = c; face = blocked-is-face c i il (a .blocked); alone = blocked-alone c i il (a .blocked) }) (record { number = refl; place = refl; size = refl; kept = refl }) }
+wall-row {code} {i} a before = record {
+  own = λ n. absurd (n (a .passes));
+  above = λ e l. absurd (omega (arith, il, l));
+  meets = λ e l. wall (record { vs = cellOf (rootOf code) (pathOf code); cell = c; face = blocked-is-face c i il (a .blocked); alone = blocked-alone c i il (a .blocked) }) (record { number = refl; place = refl; size = refl; kept = refl });
+}
   where
     c : IsCell code (cellOf (rootOf code) (pathOf code))
     c = code-cell code (a .passes)
+
     il : i ≤ dimensionOf code
     il = leb-true i (dimensionOf code) (a .facet)
 

@@ -84,6 +84,7 @@ side-same L M h l e = go (decLt L M) (decLt M L)
   where
     less : (L M : ℕ) → L < M → L ≤ halvings → M ≤ halvings → sideAfter L ≡ sideAfter M → ⊥
     less L M q h l e = omega (arith, mul-lt-mul-of-pos-right {m = 2 ^ L} {n = 2 ^ M} {k = sideAfter M} (pow-lt {i = L} {j = M} q) (side-pos M l), side-whole M l, rw e at (side-whole L h))
+
     go : Dec (L < M) → Dec (M < L) → L ≡ M
     go (yes q) r = absurd (less L M q h l e)
     go (no q) (yes r) = absurd (less M L r l h (sym e))
@@ -134,9 +135,10 @@ box-short d D d0 h l = lt-of-mul-lt-mul-right d (omega (arith, depth-parts d D d
 
 pub side-of : (d D : ℕ) → 0 < d → D ≤ greatestDepth d → Side d (splitPlace d D) (boxSide d D)
 unfolding boxSide
-side-of d D d0 h = record
-  { some = side-pos (boxDepth d D) (box-in d D d0 h)
-  ; even = λ l. side-even (boxDepth d D) (box-short d D d0 h l) }
+side-of d D d0 h = record {
+  some = side-pos (boxDepth d D) (box-in d D d0 h);
+  even = λ l. side-even (boxDepth d D) (box-short d D d0 h l);
+}
 
 pub at-root : (d : ℕ) → 0 < d → (boxDepth d 0 ≡ 0) × (splitPlace d 0 ≡ d)
 unfolding boxDepth splitPlace level
@@ -161,8 +163,10 @@ deeper d D d0 = go (decLt (suc (D % d)) d)
   where
     sum : D / d * d + D % d ≡ D
     sum = div-add-mod' D d
+
     more : D / d * d + suc (D % d) ≡ suc D
     more = omega (arith, sum)
+
     go : Dec (suc (D % d) < d) → Within d D ⊎ Turned d D
     go (yes h) = inl (record { room = omega (arith, mod-lt D d0); split = rw l (omega arith); level = rw l (eqb·suc-zero (D % d)); box = rw (← more) (digits-div (D / d) h) })
       where
@@ -172,6 +176,7 @@ deeper d D d0 = go (decLt (suc (D % d)) d)
       where
         up : suc (D / d) * d + 0 ≡ suc D
         up = omega (arith, more, mod-lt D d0)
+
         l : suc D % d ≡ 0
         l = rw (← up) (digits-mod (suc (D / d)) d0)
 

@@ -5,7 +5,6 @@ ghost use Rattle.bisection.specs.Refusals.{codeRefusal};
 ghost use Rattle.codes.specs.Outcomes.{PathToCode, CodeToPath, Vertices, Child, Parent};
 ghost use Rattle.crossing.specs.Outcome.{Crosses};
 ghost use Rattle.sheets.specs.Sheets.{SheetIs};
-
 use codes::PathWritten;
 use codes::Written;
 use crossing::Crossed;

@@ -53,11 +53,12 @@ module _ (d : ℕ) (es : List ℕ) (size : length es ≡ d) (all : (a : ℕ) →
 
   pub every-signed : Signed d es
   unfolding f
-  every-signed = record
-    { size = size
-    ; low = λ j l. omega (arith, axis-of-place j l)
-    ; high = λ j l. omega (arith, axis-of-place j l, back j l .below)
-    ; apart = λ i j l m e. sym (back i l .is) ∙ ap g (omega (arith, axis-of-place i l, axis-of-place j m, e)) ∙ back j m .is }
+  every-signed = record {
+    size = size;
+    low = λ j l. omega (arith, axis-of-place j l);
+    high = λ j l. omega (arith, axis-of-place j l, back j l .below);
+    apart = λ i j l m e. sym (back i l .is) ∙ ap g (omega (arith, axis-of-place i l, axis-of-place j m, e)) ∙ back j m .is;
+  }
 
 -- the marks of 1..d
 marks-table : each 9 (λ d. each 8 (λ a. sameSign (high (2 ^ d - 1) (suc a)) (leb (suc a) d))) ≡ true
@@ -91,6 +92,7 @@ module _ {d : ℕ} {es : List ℕ} {i seen : ℕ} (m : Marked d es i seen) where
         where
           here : j ≡ placeIn i d
           here = sym (place-under i d (omega arith) ∙ omega arith)
+
       from : (a : ℕ) → 1 ≤ a → a ≤ 8 → high (bitOr seen (markOf (axis e))) a ≡ true → Dec (a ≡ axis e) → Stands es a d
       from a l u h (yes q) = record { place = placeIn i d; below = place-within i d p; is = ap axis (sym is) ∙ sym q }
       from a l u h (no q) = m .from a l u (sym (marked-high seen (axis e) a l u ∙ rw (ne-eqb a (axis e) q) refl) ∙ h)
@@ -108,6 +110,7 @@ module _ {d : ℕ} {es : List ℕ} {i seen : ℕ} (m : Marked d es i seen) where
           none' : (t : Bool) → high seen a ≡ t → t ≡ false
           none' false e = refl
           none' true e = absurd (omega (arith, s .high (m .from a l u e .place) (m .from a l u e .below), m .from a l u e .is))
+
       go : Dec (seen ≡ 2 ^ d - 1) → eqb seen (2 ^ d - 1) ≡ permutes d es
       go (yes e) = eq-eqb seen (2 ^ d - 1) e ∙ sym (signed-permutes d es (every-signed d es size (λ a l u. m .from a l (omega arith) (ap (λ (o : ℕ). high o a) e ∙ full-high d a (omega arith) l (omega arith) ∙ le-leb a d u))))
       go (no n) = ne-eqb seen (2 ^ d - 1) n ∙ sym (wrong (permutes d es) refl)

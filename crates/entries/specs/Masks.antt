@@ -60,10 +60,13 @@ raised-high o b a h l = rw (bit-or o (2 ^ (b - 1)) (a - 1)) (go (ℕ-discrete a 
   where
     x : ℕ
     x = o / 2 ^ (a - 1) % 2
+
     small : x < 2
     small = mod-lt (o / 2 ^ (a - 1)) (omega arith)
+
     same : max x 0 ≡ x
     same = omega arith
+
     go : Dec (a ≡ b) → Dec (a < b) → eqb (max x (2 ^ (b - 1) / 2 ^ (a - 1) % 2)) 1 ≡ cond (eqb a b) true (eqb x 1)
     go (yes e) f = rw (eq-eqb a b e) (ap (λ (u : ℕ). eqb (max x u) 1) (subst (λ (c : ℕ). 2 ^ (b - 1) / 2 ^ (c - 1) % 2 ≡ 1) (sym e) (bit-power-at (b - 1))) ∙ eq-eqb (max x 1) 1 (omega arith))
     go (no e) (yes f) = rw (ne-eqb a b e, bit-power-below (b - 1) (a - 1) (omega arith), same) refl
@@ -99,6 +102,7 @@ module _ (o a : ℕ) where
     where
       still : a ≢ b → markOf a ≡ 0 → high (bitOr o (markOf a)) b ≡ cond (eqb b a) true (high o b)
       still n e = rw (e, or-zero-r o, ne-eqb b a (λ q. n (sym q))) refl
+
       go : Dec (a < 1) → Dec (8 < a) → high (bitOr o (markOf a)) b ≡ cond (eqb b a) true (high o b)
       go (yes p) q = still (omega arith) (mark-none a p)
       go (no p) (yes q) = still (omega arith) (mark-over a q)

@@ -21,6 +21,7 @@ checked code e = record { good = g; size = ap length (g .is) ∙ size; range = d
   where
     g : Good code
     g = good code e
+
     size : length (bytes (dimensionOf code) (depthOf code) (partsOf code)) ≡ 2 + dimensionOf code + boxDepth (dimensionOf code) (depthOf code)
     size = unfold bytes in simp length-append (omega (arith, g .passes .signed .size, g .passes .boxes .count))
 

@@ -35,9 +35,11 @@ byte-negated e h l = go (decLe 128 e) l
     plus : (n : ℕ) → 1 ≤ n → byteOf (negℤ (pos n)) ≡ n + 128
     plus zero q = absurd (omega arith)
     plus (suc n) q = unfold byteOf in omega arith
+
     back : (n : ℕ) → byteOf (negℤ (negℤ (pos n))) ≡ n
     back zero = unfold byteOf in refl
     back (suc n) = unfold byteOf in refl
+
     go : Dec (128 ≤ e) → 1 ≤ axis e → byteOf (negℤ (signedOf e)) ≡ negated e
     go (yes q) l = unfold axis minus negated in rw (signed-minus e q, le-leb 128 e q) (back (e - 128))
     go (no q) l = unfold axis minus negated in let t : e < 128 = omega arith in rw (signed-plus e t, lt-leb 128 e t) (plus e (rw (lt-leb 128 e t) at l))
@@ -48,6 +50,7 @@ signed-fits e h = go (decLe 128 e)
     neg : (n : ℕ) → n < 128 → SFits w8 (negℤ (pos n))
     neg zero q = record { sfits = omega arith }
     neg (suc n) q = record { sfits = omega arith }
+
     go : Dec (128 ≤ e) → SFits w8 (signedOf e)
     go (yes q) = rw (signed-minus e q) (neg (e - 128) (omega arith))
     go (no q) = let t : e < 128 = omega arith in rw (signed-plus e t) (record { sfits = omega arith })
@@ -114,9 +117,11 @@ opposite-fits e h = go (decLe 128 e)
     neg : (n : ℕ) → n < 128 → SFits w8 (negℤ (pos n))
     neg zero q = record { sfits = omega arith }
     neg (suc n) q = record { sfits = omega arith }
+
     back : (n : ℕ) → n < 128 → SFits w8 (negℤ (negℤ (pos n)))
     back zero q = record { sfits = omega arith }
     back (suc n) q = record { sfits = omega arith }
+
     go : Dec (128 ≤ e) → SFits w8 (negℤ (signedOf e))
     go (yes q) = rw (signed-minus e q) (back (e - 128) (omega arith))
     go (no q) = let t : e < 128 = omega arith in rw (signed-plus e t) (neg e t)

@@ -47,7 +47,7 @@ pub permutes-take : (d : ℕ) (l : List ℕ) → permutes d (take d l) ≡ permu
 unfolding permutes fresh
 permutes-take d l = each-same d (entryFits d (take d l)) (entryFits d l) (λ i h. rw (getD-take d l i 0 h)
     (ap (λ (t : Bool). leb 1 (axis (getD l i 0)) && leb (axis (getD l i 0)) d && t)
-      (each-same i (λ j. not (eqb (axis (getD (take d l) j 0)) (axis (getD l i 0)))) (λ j. not (eqb (axis (getD l j 0)) (axis (getD l i 0)))) (λ j k. rw (getD-take d l j 0 (omega arith)) refl))))
+    (each-same i (λ j. not (eqb (axis (getD (take d l) j 0)) (axis (getD l i 0)))) (λ j. not (eqb (axis (getD l j 0)) (axis (getD l i 0)))) (λ j k. rw (getD-take d l j 0 (omega arith)) refl))))
 
 -- the place of a read that takes no branch: i, or the first
 abbrev pub placeIn : ℕ → ℕ → ℕ
@@ -83,14 +83,17 @@ fitting-none d n os = record { every = λ h j l m. absurd (omega arith); fits = 
 
 module _ {d n : ℕ} {os : List ℕ} {i any : ℕ} (t : Fitting d n os i any) where
   pub fitting-next : 0 < n → (o : ℕ) → o ≡ getD os (placeIn i n) 0 → Fitting d n os (i + 1) (bitOr any o)
-  fitting-next p o e = record
-    { every = λ h j l m. go h j l m (decLt j i)
-    ; fits = λ f. or-lt d any o (t .fits f) (rw e (f (placeIn i n) (place-within i n p))) }
+  fitting-next p o e = record {
+    every = λ h j l m. go h j l m (decLt j i);
+    fits = λ f. or-lt d any o (t .fits f) (rw e (f (placeIn i n) (place-within i n p)));
+  }
     where
       over-l : any ≤ bitOr any o
       over-l = omega (arith, or-add-and any o, and-le-r any o)
+
       over-r : o ≤ bitOr any o
       over-r = omega (arith, or-add-and any o, and-le-l any o)
+
       go : bitOr any o < 2 ^ d → (j : ℕ) → j < i + 1 → j < n → Dec (j < i) → getD os j 0 < 2 ^ d
       go h j l m (yes q) = t .every (omega (arith, over-l)) j q m
       go h j l m (no q) = omega (arith, over-r, h, e, ap (λ (x : ℕ). getD os x 0) here)
@@ -104,12 +107,14 @@ module _ {d n : ℕ} {os : List ℕ} {i any : ℕ} (t : Fitting d n os i any) wh
     where
       test : ℕ → Bool
       test j = ltb (getD os j 0) (2 ^ d)
+
       go : Dec (any < 2 ^ d) → eqb (any / 2 ^ d) 0 ≡ each (length os) test
       go (yes l) = eq-eqb (any / 2 ^ d) 0 (div-eq-of-lt l) ∙ sym (at-each (length os) test (λ j m. lt-ltb (getD os j 0) (2 ^ d) (t .every l j (omega arith) (omega arith))))
       go (no l) = ne-eqb (any / 2 ^ d) 0 (λ q. l (low q)) ∙ sym (none (each (length os) test) refl)
         where
           low : any / 2 ^ d ≡ 0 → any < 2 ^ d
           low q = omega (arith, div-add-mod' any (2 ^ d), ap (λ (u : ℕ). u * 2 ^ d) q, mod-lt any (pow-pos d))
+
           none : (t' : Bool) → each (length os) test ≡ t' → t' ≡ false
           none false q = refl
           none true q = absurd (l (t .fits (λ j m. ltb-true (getD os j 0) (2 ^ d) (each-at (length os) test q j (omega arith)))))

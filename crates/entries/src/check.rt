@@ -8,7 +8,6 @@ ghost use Rattle.dimension.specs.Sizes.{halvings};
 ghost use Rattle.bisection.specs.Codes.{axis, minus, high};
 ghost use Rattle.bisection.specs.Refusals.{permutes, orthantsFit, sameSign, isRoot, isPath};
 ghost use Rattle.entries.specs.Walks.{ownByte, signsBy, AxesWithin};
-
 use dimension::Dim;
 
 // The place, or the first one where there are no more than n. A walk that reads a place again instead of ending has one length

@@ -166,7 +166,8 @@ module _ {sheet : List ℕ} {records from : ℕ} {out₀ : List ℕ} {at offset 
       code-fits = λ l are. omega (arith, fits-code l (there l are));
       whole-fits = λ l are. fits-whole l (there l are);
       fits = λ l are. rw (here l are) room;
-      next = λ l are {r} {out′} p. after l (there l are) (subst (λ (t : List ℕ). Puts at (leafLine number t) out r out′) (here l are) p) }
+      next = λ l are {r} {out′} p. after l (there l are) (subst (λ (t : List ℕ). Puts at (leafLine number t) out r out′) (here l are) p);
+    }
       where
         there : (l : Lengths) → LengthsAre (onward sheet offset) l → LengthsAre (drop offset sheet) l
         there l are = subst (λ (s : List ℕ). LengthsAre s l) (part-all sheet offset) are

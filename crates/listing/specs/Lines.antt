@@ -25,7 +25,8 @@ number-fits at word n out h = record {
   first = omega (arith, number-length word n);
   second = λ p. omega (arith, puts-fits (length (decimal n) + 1) room p);
   third = λ p q. puts-fits 1 (puts-fits (length (decimal n) + 1) room p) q;
-  whole = λ p q s. puts-more (omega (arith, number-length word n, length-append word (decimal n))) (puts-more (omega (arith, number-length word n)) p q) s }
+  whole = λ p q s. puts-more (omega (arith, number-length word n, length-append word (decimal n))) (puts-more (omega (arith, number-length word n)) p q) s;
+}
   where
     room : at + (length word + (length (decimal n) + 1)) ≤ length out
     room = omega (arith, number-length word n)
@@ -49,7 +50,8 @@ leaf-fits at n code out h = record {
   second = λ p. omega (arith, puts-fits (1 + (length (hex code) + 1)) room p);
   third = λ p q. omega (arith, puts-fits (length (hex code) + 1) (puts-fits (1 + (length (hex code) + 1)) room p) q, hex-length code);
   fourth = λ p q s. puts-fits 1 (puts-fits (length (hex code) + 1) (puts-fits (1 + (length (hex code) + 1)) room p) q) s;
-  whole = λ p q s t. puts-more (omega (arith, room, length-append (decimal n ++ space) (hex code), length-append (decimal n) space)) (puts-more (omega (arith, room, length-append (decimal n) space)) (puts-more (omega (arith, room)) p q) s) t }
+  whole = λ p q s t. puts-more (omega (arith, room, length-append (decimal n ++ space) (hex code), length-append (decimal n) space)) (puts-more (omega (arith, room, length-append (decimal n) space)) (puts-more (omega (arith, room)) p q) s) t;
+}
   where
     room : at + (length (decimal n) + (1 + (length (hex code) + 1))) ≤ length out
     room = omega (arith, leaf-length n code)
@@ -78,7 +80,8 @@ refused-fits refusal offset out h k l = record {
   third = λ p q. omega (arith, puts-fits (4 + (length (decimal offset) + 1)) (puts-fits (length (decimal refusal) + (4 + (length (decimal offset) + 1))) room p) q);
   fourth = λ p q s. omega (arith, puts-fits (length (decimal offset) + 1) (puts-fits (4 + (length (decimal offset) + 1)) (puts-fits (length (decimal refusal) + (4 + (length (decimal offset) + 1))) room p) q) s);
   fifth = λ p q s t. puts-fits 1 (puts-fits (length (decimal offset) + 1) (puts-fits (4 + (length (decimal offset) + 1)) (puts-fits (length (decimal refusal) + (4 + (length (decimal offset) + 1))) room p) q) s) t;
-  whole = λ p q s t u. puts-more (omega (arith, room, a, b, c)) (puts-more (omega (arith, room, a, b)) (puts-more (omega (arith, room, a)) (puts-more (omega (arith, room)) p q) s) t) u }
+  whole = λ p q s t u. puts-more (omega (arith, room, a, b, c)) (puts-more (omega (arith, room, a, b)) (puts-more (omega (arith, room, a)) (puts-more (omega (arith, room)) p q) s) t) u;
+}
   where
     room : 0 + (8 + (length (decimal refusal) + (4 + (length (decimal offset) + 1)))) ≤ length out
     room = omega (arith, refused-length refusal offset, refused-short refusal offset h k)

@@ -78,8 +78,12 @@ putting-start at t out h = record { size = refl; end = refl; fits = h; whole = r
 
 module _ {at : ℕ} {t out₀ : List ℕ} {to : ℕ} {left out : List ℕ} (on : Putting at t out₀ to left out) where
   pub putting-next : (u rest : List ℕ) {r : ℕ} {out′ : List ℕ} → left ≡ u ++ rest → Puts to u out r out′ → Putting at t out₀ r rest out′
-  putting-next u rest {r} {out′} e p = record { size = same ∙ on .size; end = omega (arith, on .end, p .next, long); fits = omega (arith, on .fits, p .next, long, same);
-    whole = rw (p .is, p .next) (put-more to u out room rest) ∙ ap (λ (l : List ℕ). put to l out) (sym e) ∙ on .whole }
+  putting-next u rest {r} {out′} e p = record {
+    size = same ∙ on .size;
+    end = omega (arith, on .end, p .next, long);
+    fits = omega (arith, on .fits, p .next, long, same);
+    whole = rw (p .is, p .next) (put-more to u out room rest) ∙ ap (λ (l : List ℕ). put to l out) (sym e) ∙ on .whole;
+  }
     where
       long : length left ≡ length u + length rest
       long = ap length e ∙ length-append u rest

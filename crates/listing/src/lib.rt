@@ -8,7 +8,6 @@ ghost use Rattle.sheets.specs.Sheets.{sheetMark, sampleWidth, GoodSheet};
 ghost use Rattle.listing.specs.Texts.{sheetLimit, refusedText, Lists};
 ghost use Rattle.listing.specs.Putting.{Puts};
 ghost use Rattle.listing.specs.Leaves.{PutsLeaves, PutsGood, RoomFor};
-
 use bisection::DONE;
 
 // The most bytes of a sheet that is listed.

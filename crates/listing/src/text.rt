@@ -5,7 +5,6 @@ ghost use Prim.Native.Nat.{_+_, _*_, _≤_, _<_};
 ghost use lib.ListN.{length};
 ghost use Rattle.listing.specs.Texts.{decimal as Texts·decimal, hex as Texts·hex, digit as Texts·digit, leafLine, numberLine};
 ghost use Rattle.listing.specs.Putting.{Puts};
-
 use steps::buffers;
 
 // Puts bytes.

@@ -9,7 +9,6 @@ ghost use Rattle.bisection.specs.Codes.{axis};
 ghost use Rattle.bisection.specs.Theorems.Entries.{unturned};
 ghost use Rattle.steps.specs.Steps.{StepsBack};
 ghost use Rattle.positions.specs.Fours.{four, noEntries};
-
 use entries::check;
 
 pub struct Four {

@@ -11,9 +11,8 @@ ghost use Rattle.positions.specs.Fours.{four};
 ghost use Rattle.positions.specs.Positions.{PositionIs};
 ghost use Rattle.positions.specs.RootNumbers.{smallerIn, numberIn};
 ghost use Rattle.positions.specs.Walks.{WalkReady, Walked};
-
-use dimension::Dim;
 use crate::four::Four;
+use dimension::Dim;
 
 // The number of a cell's root in dictionary order, and its part of the root's stretch.
 pub struct Position {
@@ -132,7 +131,12 @@ pub fn position_of(code: &[u8]) -> Position
     let depth = entries::size(code[1]);
     let size = power(dim.greatest_depth() - depth);
     let origin = walk(code, dim, depth, four::entries_of(code, axes), size);
-    let root = [origin.root.first, origin.root.second, origin.root.third, origin.root.fourth];
+    let root = [
+        origin.root.first,
+        origin.root.second,
+        origin.root.third,
+        origin.root.fourth,
+    ];
     Position {
         root: number(&root, axes),
         start: origin.start,

@@ -8,7 +8,6 @@ ghost use lib.ListN.{length, take, drop};
 ghost use Rattle.bisection.specs.Refusals.{done};
 ghost use Rattle.sheets.specs.Sheets.{sheetMark, sampleWidth, beginsWith, behindMark, recordRefusal, SheetIs};
 ghost use Rattle.sheets.specs.Steps.{BodyIs, LengthsAre, TakeReady, TakeIs, StepReady, StepIs};
-
 use bisection::DONE;
 use dimension::Dim;
 use positions::Position;

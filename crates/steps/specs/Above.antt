@@ -93,5 +93,6 @@ own-last-box d boxes code h n = sym (rw counted (getD-take boxes (drop (2 + d) c
   where
     counted : length (take boxes (drop (2 + d) code)) ≡ boxes
     counted = simp (length-take, length-drop) (omega arith)
+
     there : 2 + d + (boxes - 1) ≡ 1 + d + boxes
     there = omega arith

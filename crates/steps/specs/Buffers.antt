@@ -55,22 +55,24 @@ filled-none l f lo hi e = record { size = refl; below = λ p h. refl; inside = �
 module _ {l f : List ℕ} {lo hi : ℕ} {buf : List ℕ} (t : Filled l f lo hi buf) where
   -- one place more below, or above
   filled-down : (lo' x : ℕ) → suc lo' ≡ lo → lo' < hi → lo' < length l → x ≡ getD f lo' 0 → Filled l f lo' hi (set buf lo' x)
-  filled-down lo' x e k h q = record
-    { size = length-set buf lo' x ∙ t .size
-    ; below = λ p r. getD-set-other buf lo' p x 0 (omega arith) ∙ t .below p (omega arith)
-    ; inside = λ p r w. go p r w (ℕ-discrete p lo')
-    ; above = λ p r. getD-set-other buf lo' p x 0 (omega arith) ∙ t .above p r }
+  filled-down lo' x e k h q = record {
+    size = length-set buf lo' x ∙ t .size;
+    below = λ p r. getD-set-other buf lo' p x 0 (omega arith) ∙ t .below p (omega arith);
+    inside = λ p r w. go p r w (ℕ-discrete p lo');
+    above = λ p r. getD-set-other buf lo' p x 0 (omega arith) ∙ t .above p r;
+  }
     where
       go : (p : ℕ) → lo' ≤ p → p < hi → Dec (p ≡ lo') → getD (set buf lo' x) p 0 ≡ getD f p 0
       go p r w (yes c) = rw (c, getD-set-same buf lo' x 0 (omega (arith, t .size))) q
       go p r w (no c) = getD-set-other buf lo' p x 0 c ∙ t .inside p (omega arith) w
 
   filled-up : (x hi' : ℕ) → hi' ≡ suc hi → lo ≤ hi → hi < length l → x ≡ getD f hi 0 → Filled l f lo hi' (set buf hi x)
-  filled-up x hi' e k h q = record
-    { size = length-set buf hi x ∙ t .size
-    ; below = λ p r. getD-set-other buf hi p x 0 (omega arith) ∙ t .below p r
-    ; inside = λ p r w. go p r w (ℕ-discrete p hi)
-    ; above = λ p r. getD-set-other buf hi p x 0 (omega arith) ∙ t .above p (omega arith) }
+  filled-up x hi' e k h q = record {
+    size = length-set buf hi x ∙ t .size;
+    below = λ p r. getD-set-other buf hi p x 0 (omega arith) ∙ t .below p r;
+    inside = λ p r w. go p r w (ℕ-discrete p hi);
+    above = λ p r. getD-set-other buf hi p x 0 (omega arith) ∙ t .above p (omega arith);
+  }
     where
       go : (p : ℕ) → lo ≤ p → p < hi' → Dec (p ≡ hi) → getD (set buf hi x) p 0 ≡ getD f p 0
       go p r w (yes c) = rw (c, getD-set-same buf hi x 0 (omega (arith, t .size))) q
@@ -92,10 +94,11 @@ record Kept (l f : List ℕ) (at n : ℕ) : Type 0 where
 
 kept : (l : List ℕ) (at n : ℕ) (change : List ℕ → List ℕ) → at + n < length l → length (change (drop at l)) ≡ length (drop at l)
     → ((j : ℕ) → n < j → getD (change (drop at l)) j 0 ≡ getD (drop at l) j 0) → Kept l (atPlace at change l) at n
-kept l at n change h e past = record
-  { size = place-length at change l (omega arith) e
-  ; below = place-before at change l (omega arith)
-  ; above = λ p q. go p q }
+kept l at n change h e past = record {
+  size = place-length at change l (omega arith) e;
+  below = place-before at change l (omega arith);
+  above = λ p q. go p q;
+}
   where
     go : (p : ℕ) → at + suc n ≤ p → getD (atPlace at change l) p 0 ≡ getD l p 0
     go p q = subst (λ (i : ℕ). getD (atPlace at change l) i 0 ≡ getD l i 0) back (place-from at change l (omega arith) (p - at) ∙ past (p - at) (omega arith) ∙ getD-drop at l (p - at) 0)
@@ -120,13 +123,15 @@ module _ (l : List ℕ) (at n : ℕ) (h : at + n < length l) where
     where
       begin : at + 0 ≡ at
       begin = omega arith
+
       last : (j : ℕ) → j ≡ n → moved ≡ getD (atPlace at (turned (suc n)) l) (at + j) 0
       last j q = e ∙ sym (place-from at (turned (suc n)) l (omega arith) j ∙ turned-at n (drop at l) room j q ∙ ap negated (getD-drop at l 0 0 ∙ ap (λ (i : ℕ). getD l i 0) begin))
 
   pub turning-next : (i : ℕ) (buf : List ℕ) (moved : ℕ) → 0 < i → i ≤ n + 1 → Turning l at n i buf moved → Turning l at n (i - 1) (set buf (at + (i - 1)) moved) (getD buf (at + (i - 1)) 0)
-  turning-next i buf moved p u t = record
-    { filled = filled-down (t .filled) (at + (i - 1)) moved (omega arith) (omega arith) (omega arith) (t .next (i - 1) (omega arith))
-    ; next = λ j q. t .filled .below (at + (i - 1)) (omega arith) ∙ ap (λ (x : ℕ). getD l (at + x) 0) (sym q) ∙ sym (place-from at (turned (suc n)) l (omega arith) j ∙ turned-before n (drop at l) room j (omega arith) ∙ getD-drop at l (suc j) 0) }
+  turning-next i buf moved p u t = record {
+    filled = filled-down (t .filled) (at + (i - 1)) moved (omega arith) (omega arith) (omega arith) (t .next (i - 1) (omega arith));
+    next = λ j q. t .filled .below (at + (i - 1)) (omega arith) ∙ ap (λ (x : ℕ). getD l (at + x) 0) (sym q) ∙ sym (place-from at (turned (suc n)) l (omega arith) j ∙ turned-before n (drop at l) room j (omega arith) ∙ getD-drop at l (suc j) 0);
+  }
 
   pub turning-all : (i : ℕ) (buf : List ℕ) (moved : ℕ) → i ≤ 0 → Turning l at n i buf moved → buf ≡ atPlace at (turned (suc n)) l
   turning-all i buf moved z t = filled-all (t .filled) (turn-kept .size) (λ p q. turn-kept .below p (omega arith)) (turn-kept .above)
@@ -148,9 +153,10 @@ module _ (l : List ℕ) (at n : ℕ) (h : at + n < length l) where
   unturning-none moved e = record { filled = filled-none l (atPlace at (unturned n) l) at (at + 0) (omega arith); next = λ q. e ∙ sym (place-from at (unturned n) l (omega arith) 0 ∙ ap negated (getD-drop at l n 0)) }
 
   pub unturning-next : (i : ℕ) (buf : List ℕ) (moved : ℕ) → i ≤ n → Unturning l at n i buf moved → Unturning l at n (i + 1) (set buf (at + i) moved) (getD buf (at + i) 0)
-  unturning-next i buf moved u t = record
-    { filled = filled-up (t .filled) moved (at + (i + 1)) (omega arith) (omega arith) (omega arith) (t .next u)
-    ; next = λ q. t .filled .above (at + i) (omega arith) ∙ sym (ap (λ (x : ℕ). getD (atPlace at (unturned n) l) (at + x) 0) (add-one i) ∙ place-from at (unturned n) l (omega arith) (suc i) ∙ unturned-moved n (drop at l) back-room i (omega arith) ∙ getD-drop at l i 0) }
+  unturning-next i buf moved u t = record {
+    filled = filled-up (t .filled) moved (at + (i + 1)) (omega arith) (omega arith) (omega arith) (t .next u);
+    next = λ q. t .filled .above (at + i) (omega arith) ∙ sym (ap (λ (x : ℕ). getD (atPlace at (unturned n) l) (at + x) 0) (add-one i) ∙ place-from at (unturned n) l (omega arith) (suc i) ∙ unturned-moved n (drop at l) back-room i (omega arith) ∙ getD-drop at l i 0);
+  }
 
   pub unturning-all : (i : ℕ) (buf : List ℕ) (moved : ℕ) → n < i → i ≤ n + 1 → Unturning l at n i buf moved → buf ≡ atPlace at (unturned n) l
   unturning-all i buf moved u w t = filled-all (t .filled) (unturn-kept .size) (unturn-kept .below) (λ p q. unturn-kept .above p (omega arith))
@@ -181,10 +187,13 @@ module _ {d : ℕ} {es : List ℕ} (s : Signed d es) {i mask : ℕ} (k : Marking
     where
       a : ℕ
       a = axis (getD es p 0)
+
       fits : raised mask a < 2 ^ d
       fits = unfold raised in or-lt d mask (2 ^ (a - 1)) (k .fits) (pow-lt {i = a - 1} {j = d} (omega (arith, s .low p h, s .high p h)))
+
       other : (j : ℕ) → j < d → j ≢ p → high (raised mask a) (axis (getD es j 0)) ≡ high mask (axis (getD es j 0))
       other j q n = rw (raised-high mask a (axis (getD es j 0)) (s .low p h) (s .low j q), ne-eqb (axis (getD es j 0)) a (λ w. n (s .apart j p q h w))) refl
+
       go : (j : ℕ) → j < i + 1 → j < d → Dec (j ≡ p) → high (raised mask a) (axis (getD es j 0)) ≡ minus (getD es j 0)
       go j l q (yes w) = rw (w, raised-high mask a a (s .low p h) (s .low p h), eq-eqb a a refl) (sym e)
       go j l q (no w) = other j q w ∙ k .marked j (before (decLt i d)) q

@@ -54,6 +54,7 @@ module _ {d D : ℕ} {code root path : List ℕ} (k : ClimbReady d D code root p
     where
       less : D - D ≡ 0
       less = omega arith
+
       append-nil : (l : List ℕ) → l ++ [] ≡ l
       append-nil [] = refl
       append-nil (x ∷ l) = ap (λ (r : List ℕ). x ∷ r) (append-nil l)
@@ -122,6 +123,7 @@ module _ {d D : ℕ} {code root path : List ℕ} (k : ClimbReady d D code root p
         where
           first : take d r ≡ (parentName d t m) .entries
           first = rw entries (take-at (unstepped b n (take d root')) (drop d root') d (unfold es' in es'-size) ∙ unfold es' in entries-as)
+
           second : take (boxDepth d t) (drop (2 + d) code) ≡ (parentName d t m) .orthants
           second = unfold parentName in sym fewer-is
 
@@ -133,15 +135,16 @@ module _ {d D : ℕ} {code root path : List ℕ} (k : ClimbReady d D code root p
 
       climbed : Climbed d D code t root path r (set path' t b)
       unfolding es'
-      climbed = record
-        { root-size = ap length entries ∙ length-append es' (drop d root') ∙ rw (es'-size, length-drop d root') (omega (arith, k .axes, c .root-size))
-        ; path-size = length-set path' t b ∙ c .path-size
-        ; passes = rw name-is parent
-        ; the-root = unfold rootTo in (ap (rootTo d t) name-is ∙ unfold m in c .the-root)
-        ; the-path = rw (name-is, path-is path' (omega (arith, c .path-size, k .depth))) (sym (append-assoc (pathTo d t (parentName d t m)) (b ∷ []) (take (D - suc t) (drop (suc t) path')))
-            ∙ ap (λ (l : List ℕ). l ++ take (D - suc t) (drop (suc t) path')) (ap (λ (x : ℕ). pathTo d t (parentName d t m) ++ x ∷ []) step-is ∙ sym (path-suc d t m)) ∙ unfold m in c .the-path)
-        ; root-rest = rw entries (drop-at es' (drop d root') d es'-size) ∙ c .root-rest
-        ; path-rest = drop-set-lt D path' t b (omega arith) ∙ c .path-rest }
+      climbed = record {
+        root-size = ap length entries ∙ length-append es' (drop d root') ∙ rw (es'-size, length-drop d root') (omega (arith, k .axes, c .root-size));
+        path-size = length-set path' t b ∙ c .path-size;
+        passes = rw name-is parent;
+        the-root = unfold rootTo in (ap (rootTo d t) name-is ∙ unfold m in c .the-root);
+        the-path = rw (name-is, path-is path' (omega (arith, c .path-size, k .depth))) (sym (append-assoc (pathTo d t (parentName d t m)) (b ∷ []) (take (D - suc t) (drop (suc t) path')))
+            ∙ ap (λ (l : List ℕ). l ++ take (D - suc t) (drop (suc t) path')) (ap (λ (x : ℕ). pathTo d t (parentName d t m) ++ x ∷ []) step-is ∙ sym (path-suc d t m)) ∙ unfold m in c .the-path);
+        root-rest = rw entries (drop-at es' (drop d root') d es'-size) ∙ c .root-rest;
+        path-rest = drop-set-lt D path' t b (omega arith) ∙ c .path-rest;
+      }
 
     pub climb-next : (p own b : ℕ) (r : List ℕ) → p ≡ splitPlace d t - 1 → own ≡ ownByte (take (boxDepth d t) (drop (2 + d) code)) → StepsBack 0 p own root' b r → Climbed d D code t root path r (set path' t b)
     unfolding n

@@ -59,11 +59,12 @@ module _ (at : ℕ) (src dst : List ℕ) (h : at + 4 ≤ length dst) where
 
   four : CopiesFour at src dst d
   unfolding d
-  four = record
-    { size = length-set c (at + 3) (getD src (at + 3) 0) ∙ length-c
-    ; before = λ j l. other j (omega arith) (omega arith) (omega arith) (omega arith)
-    ; copied = λ j l u. one j l u (ℕ-discrete j at) (ℕ-discrete j (at + 1)) (ℕ-discrete j (at + 2))
-    ; past = λ j l. other j (omega arith) (omega arith) (omega arith) (omega arith) }
+  four = record {
+    size = length-set c (at + 3) (getD src (at + 3) 0) ∙ length-c;
+    before = λ j l. other j (omega arith) (omega arith) (omega arith) (omega arith);
+    copied = λ j l u. one j l u (ℕ-discrete j at) (ℕ-discrete j (at + 1)) (ℕ-discrete j (at + 2));
+    past = λ j l. other j (omega arith) (omega arith) (omega arith) (omega arith);
+  }
 
   pub copies-four : CopiesFour at src dst (set (set (set (set dst at (getD src at 0)) (at + 1) (getD src (at + 1) 0)) (at + 2) (getD src (at + 2) 0)) (at + 3) (getD src (at + 3) 0))
   unfolding a b c d
@@ -94,14 +95,17 @@ module _ {code out : List ℕ} {i : ℕ} {buf : List ℕ} (s : Copying code out 
     where
       front : length (take n code) ≡ n
       front = simp length-take (omega arith)
+
       size : length (take n code ++ drop n out) ≡ length out
       size = length-append (take n code) (drop n out) ∙ rw front (simp length-drop (omega arith))
+
       go : (j : ℕ) → Dec (j < n) → getD buf j 0 ≡ getD (take n code ++ drop n out) j 0
       go j (yes q) = s .copied j (omega arith) ∙ sym (List·getD-append (take n code) (drop n out) 0 j (omega (arith, front)) ∙ getD-take n code j 0 q)
       go j (no q) = s .past j (omega arith) ∙ sym (ap (λ (x : ℕ). getD (take n code ++ drop n out) x 0) there ∙ getD-append-add (take n code) (drop n out) (j - n) 0 ∙ getD-drop n out (j - n) 0 ∙ ap (λ (x : ℕ). getD out x 0) back)
         where
           there : j ≡ length (take n code) + (j - n)
           there = omega (arith, front)
+
           back : n + (j - n) ≡ j
           back = omega arith
 

@@ -50,11 +50,12 @@ module _ {d : ℕ} {path : List ℕ} {t : ℕ} {l r : List ℕ} (d0 : 0 < d) (sm
   walk-ready room = (omega (arith, w .size, length-mono d d0 (suc t) (length path) h), rw (w .name) (subst (λ (j : ℕ). Passes d j (nameBelow d 0 (nameIn d 0 l) (take t path))) (zero-add (length (take t path)) ∙ walked) (below-passes d d0 small (take t path) 0 (nameIn d 0 l) p)))
 
   pub walk-next : (s : List ℕ) → StepsTo d t (getD path t 0) r s → WalksTo d path (t + 1) l s
-  walk-next s k = rw (add-one t) (record
-    { size = k .size ∙ w .size
-    ; head = k .head ∙ w .head
-    ; name = k .name ∙ ap (step d t (getD path t 0)) (w .name) ∙ sym (ap (nameBelow d 0 (nameIn d 0 l)) (take-suc path t 0 h) ∙ below-snoc d d0 small (take t path) 0 (nameIn d 0 l) (getD path t 0) ∙ ap (λ (j : ℕ). step d j (getD path t 0) (nameBelow d 0 (nameIn d 0 l) (take t path))) (zero-add (length (take t path)) ∙ walked))
-    ; rest = k .rest ∙ drop-both (codeLength d t) (codeLength d (suc t)) r l (length-grows d t d0) (w .rest) })
+  walk-next s k = rw (add-one t) (record {
+    size = k .size ∙ w .size;
+    head = k .head ∙ w .head;
+    name = k .name ∙ ap (step d t (getD path t 0)) (w .name) ∙ sym (ap (nameBelow d 0 (nameIn d 0 l)) (take-suc path t 0 h) ∙ below-snoc d d0 small (take t path) 0 (nameIn d 0 l) (getD path t 0) ∙ ap (λ (j : ℕ). step d j (getD path t 0) (nameBelow d 0 (nameIn d 0 l) (take t path))) (zero-add (length (take t path)) ∙ walked));
+    rest = k .rest ∙ drop-both (codeLength d t) (codeLength d (suc t)) r l (length-grows d t d0) (w .rest);
+  })
 
 -- the code of a root and a path, written: two bytes, the root behind them, then the walk
 pub record CodeReady (d : ℕ) (root path code : List ℕ) : Type 0 where
@@ -126,11 +127,13 @@ module _ {d : ℕ} {root path code : List ℕ} (k : CodeReady d root path code) 
     where
       name : nameIn d (length path) a ≡ nameBelow d 0 (rootName root) path
       name = w .name ∙ rw (start-name, take-all (length path) path (omega arith)) refl
+
       behind : drop (2 + d) start ≡ drop (2 + d) code
       behind = rw start-is (ap (λ (j : ℕ). drop j (d ∷ length path ∷ (root ++ drop d (drop 2 code)))) two ∙ drop-at root (drop d (drop 2 code)) d (sym (k .axes)) ∙ drop-drop d 2 code)
         where
           two : 2 + d ≡ suc (suc d)
           two = omega arith
+
       rest : drop (codeLength d (length path)) start ≡ drop (codeLength d (length path)) code
       rest = unfold codeLength in drop-both (2 + d) (2 + d + boxDepth d (length path)) start code (omega arith) behind
 

@@ -117,10 +117,11 @@ module _ {code out : List ℕ} {d D : ℕ} (r : ParentReady code d D out) where
   pub parent-ready : (j v p : ℕ) → j ≡ codeLength d D → p ≡ splitPlace d D - 1
       → (2 + p < length (set (take j code ++ drop j out) 1 v)) × (1 ≤ axis (getD (set (take j code ++ drop j out) 1 v) (2 + p) 0)) × (axis (getD (set (take j code ++ drop j out) 1 v) (2 + p) 0) ≤ 8)
   unfolding buffer n
-  parent-ready j v p e q = (room , rw (entry-is j v e p q) (low .0) , rw (entry-is j v e p q) (low .1))
+  parent-ready j v p e q = (room, rw (entry-is j v e p q) (low .0), rw (entry-is j v e p q) (low .1))
     where
       room : 2 + p < length (set (take j code ++ drop j out) 1 v)
       room = unfold codeLength in simp length-set (omega (arith, parent-size j e, r .room, n-in, q))
+
       low : (1 ≤ axis (getD es n 0)) × (axis (getD es n 0) ≤ 8)
       low = unfold es in (passes .signed .low n n-in, omega (arith, passes .signed .high n n-in, r .axes, k .range .few))
 
@@ -138,6 +139,7 @@ module _ {code out : List ℕ} {d D : ℕ} (r : ParentReady code d D out) where
     where
       step : b ≡ lastStep d D m
       step = s .step ∙ unfold lastStep ownMinus fewer n es os in rw (entry-is j v e p q, o) refl
+
       again : d ∷ D ∷ ((unstepped (lastStep d D m) n es ++ take (boxDepth d D) os) ++ drop (codeLength d D) out) ≡ d ∷ D ∷ (((parentName d D m) .entries ++ (parentName d D m) .orthants) ++ drop (codeLength d D) out)
       again = unfold fewer n es os in refl
 

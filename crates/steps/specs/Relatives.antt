@@ -40,6 +40,7 @@ module _ (d D x v : ℕ) (m : Name) (rest : List ℕ) (es : length (m .entries) 
     where
       entries : take d ((m .entries ++ m .orthants) ++ rest) ≡ m .entries
       entries = rw (append-assoc (m .entries) (m .orthants) rest) (take-at (m .entries) (m .orthants ++ rest) d es)
+
       orthants : take (boxDepth d D) (drop (2 + d) (x ∷ v ∷ ((m .entries ++ m .orthants) ++ rest))) ≡ m .orthants
       orthants = rw (two, append-assoc (m .entries) (m .orthants) rest, drop-at (m .entries) (m .orthants ++ rest) d es) (take-at (m .orthants) rest (boxDepth d D) os)
 
@@ -50,8 +51,10 @@ framed d E r n x y e f = sym (take-append-drop 2 r) ∙ rw f (ap (λ (l : List �
   where
     L : ℕ
     L = boxDepth d E
+
     tail : drop (2 + d) r ≡ take L (drop (2 + d) r) ++ drop (2 + d + L) r
     tail = sym (take-append-drop L (drop (2 + d) r)) ∙ ap (λ (l : List ℕ). take L (drop (2 + d) r) ++ l) (drop-drop L (2 + d) r)
+
     body : drop 2 r ≡ (n .entries ++ n .orthants) ++ drop (2 + d + L) r
     body = sym (take-append-drop d (drop 2 r)) ∙ ap (λ (l : List ℕ). take d (drop 2 r) ++ l) (drop-drop d 2 r ∙ tail)
         ∙ sym (append-assoc (take d (drop 2 r)) (take L (drop (2 + d) r)) (drop (2 + d + L) r))
@@ -156,6 +159,7 @@ module _ {code out : List ℕ} {d D : ℕ} (r : ChildReady code d D out) where
     where
       name : nameIn d (suc D) a ≡ step d D b m
       name = s .name ∙ ap (step d D b) (buffer-name v)
+
       rest : drop (codeLength d (suc D)) (childBuffer v) ≡ drop (codeLength d (suc D)) out
       rest = unfold childBuffer in drop-set-lt (codeLength d (suc D)) (take (length code) code ++ drop (length code) out) 1 v (omega (arith, size, child-two, length-grows d D d0))
           ∙ ap (drop (codeLength d (suc D))) (ap (λ (l : List ℕ). l ++ drop (length code) out) (take-all (length code) code (omega arith)))

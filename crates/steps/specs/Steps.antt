@@ -156,34 +156,40 @@ module _ (d D b : ℕ) (d0 : 0 < d) (l : List ℕ) (h : codeLength d (suc D) ≤
 
     steps-within : Within d D → StepsTo d D b l (boxed d D l1)
     unfolding boxed nameIn step codeLength es' os es k
-    steps-within w = rw (w .level) (record
-      { size = size1
-      ; head = head1
-      ; name = λ i. record { entries = turned-entries i; orthants = orthants i }
-      ; rest = sym (drop-drop (boxDepth d (suc D)) (2 + d) l1) ∙ ap (drop (boxDepth d (suc D))) behind1 ∙ drop-drop (boxDepth d (suc D)) (2 + d) l })
+    steps-within w = rw (w .level) (record {
+      size = size1;
+      head = head1;
+      name = λ i. record { entries = turned-entries i; orthants = orthants i };
+      rest = sym (drop-drop (boxDepth d (suc D)) (2 + d) l1) ∙ ap (drop (boxDepth d (suc D))) behind1 ∙ drop-drop (boxDepth d (suc D)) (2 + d) l;
+    })
       where
         orthants : take (boxDepth d (suc D)) (drop (2 + d) l1) ≡ cond (eqb (level d (suc D)) 0) (take (boxDepth d D) (drop (2 + d) l) ++ orthant es' ∷ []) (take (boxDepth d D) (drop (2 + d) l))
         orthants = rw (w .box, behind1, w .level) refl
 
     steps-turned : Turned d D → StepsTo d D b l (boxed d D l1)
     unfolding boxed nameIn step codeLength es' os es k
-    steps-turned w = rw (w .level, turned-entries) (record
-      { size = length-set l1 (2 + d + L) o ∙ size1
-      ; head = take-set-le 2 l1 (2 + d + L) o (omega arith) ∙ head1
-      ; name = λ i. record { entries = entries i; orthants = orthants i }
-      ; rest = rw (w .box) (drop-set-lt (2 + d + suc L) l1 (2 + d + L) o (omega arith) ∙ sym (drop-drop (suc L) (2 + d) l1) ∙ ap (drop (suc L)) behind1 ∙ drop-drop (suc L) (2 + d) l) })
+    steps-turned w = rw (w .level, turned-entries) (record {
+      size = length-set l1 (2 + d + L) o ∙ size1;
+      head = take-set-le 2 l1 (2 + d + L) o (omega arith) ∙ head1;
+      name = λ i. record { entries = entries i; orthants = orthants i };
+      rest = rw (w .box) (drop-set-lt (2 + d + suc L) l1 (2 + d + L) o (omega arith) ∙ sym (drop-drop (suc L) (2 + d) l1) ∙ ap (drop (suc L)) behind1 ∙ drop-drop (suc L) (2 + d) l);
+    })
       where
         L : ℕ
         L = boxDepth d D
+
         o : ℕ
         o = orthant es'
+
         inside : L < length (drop (2 + d) l1)
         inside = rw (behind1, length-drop (2 + d) l) (omega (arith, w .box))
+
         entries : take d (drop 2 (set l1 (2 + d + L) o)) ≡ es'
         entries = ap (take d) (ap (λ (n : ℕ). drop 2 (set l1 n o)) assoc ∙ drop-set-add 2 l1 (d + L) o) ∙ take-set-le d (drop 2 l1) (d + L) o (omega arith) ∙ turned-entries
           where
             assoc : 2 + d + L ≡ 2 + (d + L)
             assoc = omega arith
+
         orthants : take (boxDepth d (suc D)) (drop (2 + d) (set l1 (2 + d + L) o)) ≡ cond (eqb (level d (suc D)) 0) (take L (drop (2 + d) l) ++ o ∷ []) (take L (drop (2 + d) l))
         orthants = rw (w .box, w .level, drop-set-add (2 + d) l1 L o) (take-suc-set (drop (2 + d) l1) L o inside ∙ ap (λ (m : List ℕ). take L m ++ o ∷ []) behind1)
 
@@ -193,9 +199,6 @@ module _ (d D b : ℕ) (d0 : 0 < d) (l : List ℕ) (h : codeLength d (suc D) ≤
 
 -- the two ways out of a step back
 module _ (at n own : ℕ) (l : List ℕ) where
-
-
-
   pub back-zero : sameSign (minus (getD l (at + n) 0)) (high own (axis (getD l (at + n) 0))) ≡ true → StepsBack at n own l 0 l
   unfolding atPlace unstepped
   back-zero e = record { step = rw e refl; entries = sym (take-append-drop at l) }

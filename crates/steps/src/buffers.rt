@@ -9,7 +9,6 @@ ghost use Rattle.bisection.specs.Codes.{axis, turned, orthant};
 ghost use Rattle.bisection.specs.Theorems.Entries.{Signed, unturned};
 ghost use Rattle.steps.specs.Buffers.{atPlace};
 ghost use Rattle.steps.specs.Copying.{CopiesFour};
-
 use dimension::Dim;
 use entries::check;
 

@@ -18,7 +18,6 @@ ghost use Rattle.entries.specs.Walks.{ownByte};
 ghost use Rattle.steps.specs.Steps.{nameIn, boxed, StepsTo, StepsBack};
 ghost use Rattle.steps.specs.Above.{placeAbove, BoxesReady, boxesAbove};
 ghost use Rattle.steps.specs.Relatives.{ChildReady, ParentReady};
-
 use dimension::Dim;
 use entries::check;
 

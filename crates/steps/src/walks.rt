@@ -9,7 +9,6 @@ ghost use Rattle.bisection.specs.Theorems.Passing.{Passes};
 ghost use Rattle.steps.specs.Steps.{nameIn};
 ghost use Rattle.steps.specs.Descents.{WalksTo, CodeReady};
 ghost use Rattle.steps.specs.Climbs.{ClimbReady, Climbed};
-
 use crate::buffers;
 use dimension::Dim;
 

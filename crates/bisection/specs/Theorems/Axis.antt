@@ -94,6 +94,7 @@ module _ (lo s : ℕ) (m : Bool) (n d : ℕ) (nd : suc n ≤ d) (r : ℕ → ℕ
     where
       z : 0 ≤ d
       z = omega arith
+
       go : Dec (j ≡ suc n) → Dec (j ≤ i) → Dec (j ≤ n) → row0 (suc n) r j ≡ closed lo s m i n j
       go (yes e) (yes a) c =
           let h0 : 0 ≤ i = omega arith in
@@ -123,6 +124,7 @@ module _ (lo s : ℕ) (m : Bool) (n d : ℕ) (nd : suc n ≤ d) (r : ℕ → ℕ
     where
       z : 0 ≤ d
       z = omega arith
+
       go : Order j (suc n) → Dec (j ≤ i) → row1 (suc n) r j ≡ closed lo s m i n j
       go (under a) (yes c) = let h : suc j ≤ suc i = omega arith in let q : suc j ≤ d = omega arith in simp (rules, is)
       go (under a) (no c) = let h : suc i < suc j = omega arith in let h1 : suc j ≤ suc n = omega arith in let h2 : i < j = omega arith in let h3 : j ≤ n = omega arith in let q : suc j ≤ d = omega arith in simp (rules, is)
@@ -141,6 +143,7 @@ module _ (lo s : ℕ) (m : Bool) (n d : ℕ) (nd : suc n ≤ d) (r : ℕ → ℕ
     where
       z : 0 ≤ d
       z = omega arith
+
       go : Order j (suc n) → row1 (suc n) r j ≡ closed lo s (not m) n n j
       go (under a) = let h : 0 < suc j = omega arith in let h1 : suc j ≤ suc n = omega arith in let h2 : j ≤ n = omega arith in let q : suc j ≤ d = omega arith in simp (rules, is)
       go (same a) =
@@ -157,6 +160,7 @@ module _ (lo s : ℕ) (m : Bool) (n d : ℕ) (nd : suc n ≤ d) (r : ℕ → ℕ
     where
       z : 0 ≤ d
       z = omega arith
+
       go : Order j (suc n) → Dec (j ≤ i) → row1 (suc n) r j ≡ closed lo s m i n j
       go (under a) c = let h : suc j ≤ i = omega arith in let h1 : j ≤ i = omega arith in let q : suc j ≤ d = omega arith in simp (rules, is)
       go (same a) c = let h0 : 0 ≤ i = omega arith in let h1 : suc n ≤ i = omega arith in let h2 : j ≤ i = omega arith in simp (rules, is, nd, z)

@@ -72,14 +72,16 @@ module _ (d : ℕ) (es : List ℕ) where
 
   pub permutes-signed : length es ≡ d → permutes d es ≡ true → Signed d es
   unfolding permutes entryFits
-  permutes-signed size e = record
-    { size = size
-    ; low = λ i l. leb-true 1 (axis (getD es i 0)) (both (leb 1 (axis (getD es i 0))) (leb (axis (getD es i 0)) d) (parts i l .0) .0)
-    ; high = λ i l. leb-true (axis (getD es i 0)) d (both (leb 1 (axis (getD es i 0))) (leb (axis (getD es i 0)) d) (parts i l .0) .1)
-    ; apart = λ i j l m q. apart i j l m q (decLt i j) (decLt j i) }
+  permutes-signed size e = record {
+    size = size;
+    low = λ i l. leb-true 1 (axis (getD es i 0)) (both (leb 1 (axis (getD es i 0))) (leb (axis (getD es i 0)) d) (parts i l .0) .0);
+    high = λ i l. leb-true (axis (getD es i 0)) d (both (leb 1 (axis (getD es i 0))) (leb (axis (getD es i 0)) d) (parts i l .0) .1);
+    apart = λ i j l m q. apart i j l m q (decLt i j) (decLt j i);
+  }
     where
       parts : (i : ℕ) → i < d → ((leb 1 (axis (getD es i 0)) && leb (axis (getD es i 0)) d) ≡ true) × (fresh es (axis (getD es i 0)) i ≡ true)
       parts i l = both (leb 1 (axis (getD es i 0)) && leb (axis (getD es i 0)) d) (fresh es (axis (getD es i 0)) i) (each-at d entryFits e i l)
+
       apart : (i j : ℕ) → i < d → j < d → axis (getD es i 0) ≡ axis (getD es j 0) → Dec (i < j) → Dec (j < i) → i ≡ j
       apart i j l m q (yes h) r = absurd (fresh-apart es (axis (getD es j 0)) j (parts j m .1) i h q)
       apart i j l m q (no h) (yes r) = absurd (fresh-apart es (axis (getD es i 0)) i (parts i l .1) j r (sym q))
@@ -89,8 +91,8 @@ module _ (d : ℕ) (es : List ℕ) where
   unfolding permutes
   signed-permutes s = at-each d (λ i. leb 1 (axis (getD es i 0)) && leb (axis (getD es i 0)) d && fresh es (axis (getD es i 0)) i)
       (λ i l. and-both (leb 1 (axis (getD es i 0)) && leb (axis (getD es i 0)) d) (fresh es (axis (getD es i 0)) i)
-        (and-both (leb 1 (axis (getD es i 0))) (leb (axis (getD es i 0)) d) (le-leb 1 (axis (getD es i 0)) (s .low i l)) (le-leb (axis (getD es i 0)) d (s .high i l)))
-        (apart-fresh es (axis (getD es i 0)) i (λ j h q. omega (arith, s .apart j i (omega arith) l q))))
+      (and-both (leb 1 (axis (getD es i 0))) (leb (axis (getD es i 0)) d) (le-leb 1 (axis (getD es i 0)) (s .low i l)) (le-leb (axis (getD es i 0)) d (s .high i l)))
+      (apart-fresh es (axis (getD es i 0)) i (λ j h q. omega (arith, s .apart j i (omega arith) l q))))
 
 module _ (d L : ℕ) (os : List ℕ) (size : length os ≡ L) where
   pub fit-boxes : orthantsFit d os ≡ true → Boxes d L os
@@ -118,6 +120,7 @@ module _ (d D : ℕ) (es os : List ℕ) (entries : length es ≡ d) (boxes : len
     where
       first : (need (permutes d es) refusedPermutation ≡ 0) × ((need (orthantsFit d os) refusedOrthant then need (signsOwn (splitPlace d D) es os) refusedSign) ≡ 0)
       first = then-done (need (permutes d es) refusedPermutation) (need (orthantsFit d os) refusedOrthant then need (signsOwn (splitPlace d D) es os) refusedSign) e
+
       second : (need (orthantsFit d os) refusedOrthant ≡ 0) × (need (signsOwn (splitPlace d D) es os) refusedSign ≡ 0)
       second = then-done (need (orthantsFit d os) refusedOrthant) (need (signsOwn (splitPlace d D) es os) refusedSign) (first .1)
 
@@ -136,6 +139,7 @@ module _ (d D : ℕ) (m : Name) (entries : length (m .entries) ≡ d) where
     where
       two : 2 + d ≡ suc (suc d)
       two = omega arith
+
       orthants : drop (2 + d) (d ∷ D ∷ (m .entries ++ m .orthants)) ≡ m .orthants
       orthants = rw two (drop-at (m .entries) (m .orthants) d entries)
 
@@ -165,29 +169,40 @@ module _ (code : List ℕ) where
     where
       r1 : (need (leb 2 (length code)) refusedLength ≡ 0) × ((headRefusal d D then need (eqb (length code) (codeLength d D)) refusedLength then bodyRefusal d D (entriesOf code) (orthantsOf code)) ≡ 0)
       r1 = then-done (need (leb 2 (length code)) refusedLength) (headRefusal d D then need (eqb (length code) (codeLength d D)) refusedLength then bodyRefusal d D (entriesOf code) (orthantsOf code)) e
+
       r2 : (headRefusal d D ≡ 0) × ((need (eqb (length code) (codeLength d D)) refusedLength then bodyRefusal d D (entriesOf code) (orthantsOf code)) ≡ 0)
       r2 = then-done (headRefusal d D) (need (eqb (length code) (codeLength d D)) refusedLength then bodyRefusal d D (entriesOf code) (orthantsOf code)) (r1 .1)
+
       r3 : (need (eqb (length code) (codeLength d D)) refusedLength ≡ 0) × (bodyRefusal d D (entriesOf code) (orthantsOf code) ≡ 0)
       r3 = then-done (need (eqb (length code) (codeLength d D)) refusedLength) (bodyRefusal d D (entriesOf code) (orthantsOf code)) (r2 .1)
+
       h : (need (isDimension d) refusedDimension ≡ 0) × (need (leb D (greatestDepth d)) refusedDepth ≡ 0)
       h = then-done (need (isDimension d) refusedDimension) (need (leb D (greatestDepth d)) refusedDepth) (r2 .0)
+
       two : 2 ≤ length code
       two = leb-true 2 (length code) (need-done (leb 2 (length code)) refusedLength (omega arith) (r1 .0))
+
       dim : isDimension d ≡ true
       dim = need-done (isDimension d) refusedDimension (omega arith) (h .0)
+
       deep : D ≤ greatestDepth d
       deep = leb-true D (greatestDepth d) (need-done (leb D (greatestDepth d)) refusedDepth (omega arith) (h .1))
+
       size : length code ≡ 2 + d + boxDepth d D
       size = eqb-true (length code) (codeLength d D) (need-done (eqb (length code) (codeLength d D)) refusedLength (omega arith) (r3 .0))
+
       size-e : length (take d (drop 2 code)) ≡ d
       size-e = simp (length-take, length-drop) (omega (arith, size))
+
       size-o : length (drop (2 + d) code) ≡ boxDepth d D
       size-o = simp length-drop (omega (arith, size))
+
       whole : code ≡ bytes d D (partsOf code)
       whole = unfold bytes dimensionOf depthOf in two-and-rest code two ∙ ap (λ (l : List ℕ). getD code 0 0 ∷ getD code 1 0 ∷ l) rest
         where
           split : (l : List ℕ) (n : ℕ) → drop 2 l ≡ take n (drop 2 l) ++ drop n (drop 2 l)
           split l n = sym (take-append-drop n (drop 2 l))
+
           rest : drop 2 code ≡ take (getD code 0 0) (drop 2 code) ++ drop (2 + getD code 0 0) code
           rest = split code (getD code 0 0) ∙ ap (λ (l : List ℕ). take (getD code 0 0) (drop 2 code) ++ l) (drop-drop (getD code 0 0) 2 code)
 
@@ -198,14 +213,19 @@ bytes-done d D m dim deep p = go
   where
     code : List ℕ
     code = d ∷ D ∷ (m .entries ++ m .orthants)
+
     rest : ℕ
     rest = need (eqb (length code) (codeLength d D)) refusedLength then bodyRefusal d D (entriesOf code) (orthantsOf code)
+
     size : length code ≡ 2 + d + boxDepth d D
     size = simp length-append (omega (arith, p .signed .size, p .boxes .count))
+
     parts : record { entries = entriesOf code; orthants = orthantsOf code } ≡ m
     parts = unfold partsOf in parts-bytes d D m (p .signed .size)
+
     body : bodyRefusal d D (entriesOf code) (orthantsOf code) ≡ done
     body = subst (λ (q : Name). bodyRefusal d D (q .entries) (q .orthants) ≡ done) (sym parts) (passes-body d D (m .entries) (m .orthants) (p .signed .size) (p .boxes .count) p)
+
     go : (need (leb 2 (length code)) refusedLength then headRefusal d D then rest) ≡ done
     go = done-then (need (leb 2 (length code)) refusedLength) (headRefusal d D then rest) (done-need (leb 2 (length code)) refusedLength (le-leb 2 (length code) (omega arith)))
         ∙ done-then (headRefusal d D) rest (done-then (need (isDimension d) refusedDimension) (need (leb D (greatestDepth d)) refusedDepth) (done-need (isDimension d) refusedDimension dim) ∙ done-need (leb D (greatestDepth d)) refusedDepth (le-leb D (greatestDepth d) deep))

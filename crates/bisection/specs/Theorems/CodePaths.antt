@@ -77,27 +77,36 @@ pathOf code = pathTo (dimensionOf code) (depthOf code) (partsOf code)
 -- every byte string that passes is the code of a good root and a good path
 pub code-path : (code : List ℕ) → codeRefusal code ≡ done → IsCodeOf code (rootOf code) (pathOf code)
 unfolding rootOf pathOf
-code-path code e = record
-  { good-root = record { dimension = rw size (g .dimension); permutation = shape .1 }
-  ; good-path = record { steps = steps-path d d0 small D (partsOf code) (g .passes) .small; depth = rw (size, deep) (g .depth) }
-  ; is = g .is ∙ sym again }
+code-path code e = record {
+  good-root = record { dimension = rw size (g .dimension); permutation = shape .1 };
+  good-path = record { steps = steps-path d d0 small D (partsOf code) (g .passes) .small; depth = rw (size, deep) (g .depth) };
+  is = g .is ∙ sym again;
+}
   where
     g : Good code
     g = good code e
+
     d : ℕ
     d = dimensionOf code
+
     D : ℕ
     D = depthOf code
+
     d0 : 0 < d
     d0 = some-axes (g .dimension)
+
     small : d < 128
     small = few-axes (g .dimension)
+
     shape : (length (rootTo d D (partsOf code)) ≡ d) × Permutation (rootTo d D (partsOf code))
     shape = root-root d d0 small D (partsOf code) (g .passes)
+
     size : length (rootTo d D (partsOf code)) ≡ d
     size = shape .0
+
     deep : length (pathTo d D (partsOf code)) ≡ D
     deep = length-path d d0 small D (partsOf code)
+
     again : codeOf (rootTo d D (partsOf code)) (pathTo d D (partsOf code)) ≡ bytes d D (partsOf code)
     again = unfold codeOf nameOf in rw (size, deep, name-again d d0 small D (partsOf code) (g .passes)) refl
 
@@ -121,6 +130,7 @@ child-code root path r b = rw (dimension-of-code root path, depth-of-code root p
   where
     more : length (path ++ b ∷ []) ≡ suc (length path)
     more = simp length-append (omega arith)
+
     go : codeOf root (path ++ b ∷ []) ≡ bytes (length root) (suc (length path)) (step (length root) (length path) b (nameOf root path))
     go = unfold codeOf nameOf in rw (more, below-snoc (length root) (d0 r path) (small r path) path 0 (rootName root) b, zero-add (length path)) refl
 
@@ -134,25 +144,34 @@ parent-code root path r b h = rw (child-code root path r b) go
   where
     n : Name
     n = nameOf root path
+
     d : ℕ
     d = length root
+
     D : ℕ
     D = length path
+
     stepped : Passes d (suc D) (step d D b n)
     stepped = step-passes d D (d0 r path) (small r path) n (name-passes r path) b
+
     less : suc D - 1 ≡ D
     less = omega arith
+
     parent : parentName d D (step d D b n) ≡ n
     parent = parent-step d D (d0 r path) (small r path) n (name-passes r path) b h
+
     go : bytes (dimensionOf (childCode b (codeOf root path))) (depthOf (childCode b (codeOf root path)) - 1) (parentName (dimensionOf (childCode b (codeOf root path))) (depthOf (childCode b (codeOf root path)) - 1) (partsOf (childCode b (codeOf root path)))) ≡ codeOf root path
     go = rw child-is (rw (dims, depths, parts-bytes d (suc D) (step d D b n) (stepped .signed .size), less, parent) codes)
       where
         child-is : childCode b (codeOf root path) ≡ bytes d (suc D) (step d D b n)
         child-is = unfold childCode in rw (dimension-of-code root path, depth-of-code root path, parts-of-code r path) refl
+
         dims : dimensionOf (bytes d (suc D) (step d D b n)) ≡ d
         dims = unfold bytes dimensionOf in refl
+
         depths : depthOf (bytes d (suc D) (step d D b n)) ≡ suc D
         depths = unfold bytes depthOf in refl
+
         codes : bytes d D n ≡ codeOf root path
         codes = unfold codeOf in refl
 

@@ -121,8 +121,10 @@ module _ {d : ℕ} {es : List ℕ} (g : Signed d es) (n : ℕ) (nd : suc n ≤ d
     where
       a : ℕ
       a = axis (getD (turned (suc n) es) i 0)
+
       first : axis (getD es 0 0) < 128
       first = omega (arith, g .high 0 (omega arith))
+
       go : Order i n → along (child (suc b) (suc n) vs) a j ≡ closed (lo a) s (minus (getD (turned (suc n) es) i 0)) i n j
       go (under q) = rw (turned-before n es es-room i q) (child1-along d (suc n) vs z nd b (axis (getD es (suc i) 0)) j
           ∙ child1-moved (lo (axis (getD es (suc i) 0))) s (minus (getD es (suc i) 0)) n d nd (along vs (axis (getD es (suc i) 0))) i q (is (suc i) (omega arith)) j h)
@@ -153,19 +155,26 @@ module _ (d D : ℕ) (d0 : 0 < d) (small : d < 128) (deep : D < greatestDepth d)
     where
       es : List ℕ
       es = stepped b (splitPlace d D) (m .entries)
+
       a : ℕ → ℕ
       a i = axis (getD es i 0)
+
       os : List ℕ
       os = m .orthants
+
       s : ℕ
       s = sideAfter (boxDepth d D)
+
       os' : List ℕ
       os' = cond (eqb (level d (suc D)) 0) (os ++ orthant es ∷ []) os
+
       inside : (i : ℕ) → i < d → (j : ℕ) → j ≤ d → along (child b (splitPlace d D) vs) (a i) j ≡ closed (boxLow (a i) 0 os) s (minus (getD es i 0)) i n j
       inside = rw split-suc (step-closed (p .signed) n n-in small vs (r .sized) (λ a. boxLow a 0 os) s (rw split-suc at (r .reads)) b)
+
       within : Within d D → (i : ℕ) → i < d → (j : ℕ) → j ≤ d
           → along (child b (splitPlace d D) vs) (a i) j ≡ closed (boxLow (a i) 0 os') (sideAfter (boxDepth d (suc D))) (minus (getD es i 0)) i (splitPlace d (suc D)) j
       within w i l j h = rw (w .level, w .box) (subst (λ (k : ℕ). along (child b (splitPlace d D) vs) (a i) j ≡ closed (boxLow (a i) 0 os) s (minus (getD es i 0)) i k j) (omega (arith, w .split, split-suc)) (inside i l j h))
+
       turn : Turned d D → (i : ℕ) → i < d → (j : ℕ) → j ≤ d
           → along (child b (splitPlace d D) vs) (a i) j ≡ closed (boxLow (a i) 0 os') (sideAfter (boxDepth d (suc D))) (minus (getD es i 0)) i (splitPlace d (suc D)) j
       turn w i l j h = rw (w .level, w .box, w .split, boxLow-snoc (a i) 0 os (orthant es), zero-add (length os), p .boxes .count, side-half (boxDepth d D), orthant-high signed i l, half-low (boxLow (a i) 0 os) s (minus (getD es i 0)))
@@ -182,9 +191,11 @@ pub record Distinct (n : ℕ) (axes : List ℕ) : Type 0 where
   pub apart : (i j : ℕ) → i < length axes → j < length axes → getD axes i 0 ≡ getD axes j 0 → i ≡ j
 
 distinct-rest : {n x : ℕ} {axes : List ℕ} → Distinct n (x ∷ axes) → Distinct n axes
-distinct-rest t = record
-  { low = λ i l. t .low (suc i) (omega arith); high = λ i l. t .high (suc i) (omega arith)
-  ; apart = λ i j l m e. omega (arith, t .apart (suc i) (suc j) (omega arith) (omega arith) e) }
+distinct-rest t = record {
+  low = λ i l. t .low (suc i) (omega arith);
+  high = λ i l. t .high (suc i) (omega arith);
+  apart = λ i j l m e. omega (arith, t .apart (suc i) (suc j) (omega arith) (omega arith) e);
+}
 
 length-moved : (x : ℕ) (v : Point) → length (moved x v) ≡ length v
 unfolding moved
@@ -249,21 +260,27 @@ root-closed S i d j h = go (decLe j i)
 -- a root's cell is drawn by its name
 pub drawn-root : (root : List ℕ) → 0 < length root → length root < 128 → Permutation root → Drawn (length root) 0 (rootName root) (rootCell root)
 unfolding rootCell
-drawn-root root d0 small p = record
-  { sized = record { size = corners-size origin root; dims = λ j l. corners-dims origin root j l ∙ length-replicate {A = ℕ} (length root) 0 }
-  ; reads = λ i l j h. rw (is i l, plain i l, at-root (length root) d0 .1, low (getD root i 0), side)
-      (corners-on origin root distinct i l j h ∙ rw (zero-at (length root) (getD root i 0 - 1)) (root-closed cubeSide i (length root) j h)) }
+drawn-root root d0 small p = record {
+  sized = record { size = corners-size origin root; dims = λ j l. corners-dims origin root j l ∙ length-replicate {A = ℕ} (length root) 0 };
+  reads = λ i l j h. rw (is i l, plain i l, at-root (length root) d0 .1, low (getD root i 0), side)
+      (corners-on origin root distinct i l j h ∙ rw (zero-at (length root) (getD root i 0 - 1)) (root-closed cubeSide i (length root) j h));
+}
   where
     origin : Point
     origin = replicate (length root) 0
+
     plain : (i : ℕ) → i < length root → minus (getD root i 0) ≡ false
     plain i l = plain-minus (getD root i 0) (omega (arith, p .high i l))
+
     is : (i : ℕ) → i < length root → axis (getD root i 0) ≡ getD root i 0
     is i l = plain-axis (getD root i 0) (plain i l)
+
     distinct : Distinct (length origin) root
     distinct = rw (length-replicate {A = ℕ} (length root) 0) (record { low = p .low; high = p .high; apart = p .apart })
+
     low : (a : ℕ) → boxLow a 0 [] ≡ 0
     low a = unfold boxLow in refl
+
     side : boxSide (length root) 0 ≡ cubeSide
     side = unfold boxSide in rw (at-root (length root) d0 .0) side-first
 

@@ -71,6 +71,7 @@ stands {d} {es} s a h l = record { place = t .place; below = t .below; is = omeg
   where
     f : ℕ → ℕ
     f i = axis (getD es i 0) - 1
+
     t : Taken f (a - 1) d
     t = onto d f (λ i q. omega (arith, s .low i q, s .high i q)) (λ i j q r e. s .apart i j q r (omega (arith, e, s .low i q, s .low j r))) (a - 1) (omega arith)
 
@@ -122,6 +123,7 @@ module _ (n : ℕ) (es : List ℕ) (h : n < length es) where
     where
       e : n + (i - n) ≡ i
       e = omega arith
+
       f : length (take n es) + (i - n) ≡ n + (i - n)
       f = omega (arith, front-length)
 
@@ -168,6 +170,7 @@ target-source n i = go (order i n)
     past : (i : ℕ) → n < i → target n i ≡ i
     past zero h = absurd (omega arith)
     past (suc i) h = target-past n i (omega arith)
+
     go : Order i n → target n (source n i) ≡ i
     go (under h) = rw (source-before n i h) (target-before n i h)
     go (same e) = rw (source-at n i e) (target-first n ∙ sym e)
@@ -204,11 +207,12 @@ module _ (n d : ℕ) (h : n < d) (i : ℕ) (l : i < d) where
 -- a list whose axes are those of a signed permutation, taken from other places
 pub signed-along : {d : ℕ} {es : List ℕ} → Signed d es → (fs : List ℕ) → length fs ≡ d → (from back : ℕ → ℕ)
     → ((i : ℕ) → i < d → from i < d) → ((i : ℕ) → i < d → back (from i) ≡ i) → ((i : ℕ) → i < d → axis (getD fs i 0) ≡ axis (getD es (from i) 0)) → Signed d fs
-signed-along s fs size from back inside again is = record
-  { size = size
-  ; low = λ i l. rw (is i l) (s .low (from i) (inside i l))
-  ; high = λ i l. rw (is i l) (s .high (from i) (inside i l))
-  ; apart = λ i j l m e. sym (again i l) ∙ ap back (s .apart (from i) (from j) (inside i l) (inside j m) (sym (is i l) ∙ e ∙ is j m)) ∙ again j m }
+signed-along s fs size from back inside again is = record {
+  size = size;
+  low = λ i l. rw (is i l) (s .low (from i) (inside i l));
+  high = λ i l. rw (is i l) (s .high (from i) (inside i l));
+  apart = λ i j l m e. sym (again i l) ∙ ap back (s .apart (from i) (from j) (inside i l) (inside j m) (sym (is i l) ∙ e ∙ is j m)) ∙ again j m;
+}
 
 module _ {d : ℕ} {es : List ℕ} (s : Signed d es) (n : ℕ) (h : n < d) (small : d < 128) where
   room : n < length es

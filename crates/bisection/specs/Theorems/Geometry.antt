@@ -28,6 +28,7 @@ closed-form root path r h = rw zero-add at (drawn-below (length root) d0 small p
   where
     d0 : 0 < length root
     d0 = some-axes (r .dimension)
+
     small : length root < 128
     small = few-axes (r .dimension)
 
@@ -41,18 +42,25 @@ split-even {d} {D} {m} {vs} d0 h g r a l u = subst (λ (b : ℕ). (along vs b 0 
   where
     k : ℕ
     k = splitPlace d D
+
     t : Stands (m .entries) a d
     t = stands g a l u
+
     e : ℕ
     e = entry m (t .place)
+
     s : ℕ
     s = boxSide d D
+
     ev : s % 2 ≡ 0
     ev = unfold boxSide in side-even (boxDepth d D) (box-under d D d0 h)
+
     start : along vs (axis e) 0 ≡ near (boxLow (axis e) 0 (m .orthants)) s (minus e)
     start = r .reads (t .place) (t .below) 0 (omega arith) ∙ closed-near (boxLow (axis e) 0 (m .orthants)) s (minus e) (t .place) k 0 (omega arith)
+
     end : along vs (axis e) k ≡ closed (boxLow (axis e) 0 (m .orthants)) s (minus e) (t .place) k k
     end = r .reads (t .place) (t .below) k (split-range d D d0 .1)
+
     go : Dec (k ≤ t .place) → (along vs (axis e) 0 + along vs (axis e) k) % 2 ≡ 0
     go (yes q) = rw (start, end, closed-near (boxLow (axis e) 0 (m .orthants)) s (minus e) (t .place) k k q) (even-twice (near (boxLow (axis e) 0 (m .orthants)) s (minus e)))
     go (no q) = rw (start, end, closed-far (boxLow (axis e) 0 (m .orthants)) s (minus e) (t .place) k k (omega arith) (omega arith)) (sides-even (boxLow (axis e) 0 (m .orthants)) s (minus e) ev)
@@ -80,23 +88,31 @@ entry-reading {d} {D} {m} {vs} d0 g r i h = record { on = rw (here, next) (near-
   where
     k : ℕ
     k = splitPlace d D
+
     kd : k ≤ d
     kd = split-range d D d0 .1
+
     low : ℕ → ℕ
     low i = boxLow (axis (entry m i)) 0 (m .orthants)
+
     is : (t : ℕ) → t < d → (j : ℕ) → j ≤ d → along vs (axis (entry m t)) j ≡ closed (low t) (boxSide d D) (minus (entry m t)) t k j
     is = r .reads
+
     here : along vs (axis (entry m i)) i ≡ near (low i) (boxSide d D) (minus (entry m i))
     here = is i (omega (arith, kd)) i (omega (arith, kd)) ∙ closed-near (low i) (boxSide d D) (minus (entry m i)) i k i (omega arith)
+
     next : along vs (axis (entry m i)) (suc i) ≡ far (low i) (boxSide d D) (minus (entry m i))
     next = is i (omega (arith, kd)) (suc i) (omega (arith, kd)) ∙ closed-far (low i) (boxSide d D) (minus (entry m i)) i k (suc i) (omega arith) h
+
     off : (a : ℕ) → 1 ≤ a → a ≤ d → a ≢ axis (entry m i) → along vs a (suc i) ≡ along vs a i
     off a l u n = subst (λ (b : ℕ). along vs b (suc i) ≡ along vs b i) (t .is) (rw (is (t .place) (t .below) (suc i) (omega (arith, kd)), is (t .place) (t .below) i (omega (arith, kd))) (go (order (t .place) i)))
       where
         t : Stands (m .entries) a d
         t = stands g a l u
+
         p : ℕ
         p = t .place
+
         go : Order p i → closed (low p) (boxSide d D) (minus (entry m p)) p k (suc i) ≡ closed (low p) (boxSide d D) (minus (entry m p)) p k i
         go (under q) = rw (closed-far (low p) (boxSide d D) (minus (entry m p)) p k (suc i) (omega arith) h, closed-far (low p) (boxSide d D) (minus (entry m p)) p k i q (omega arith)) refl
         go (same q) = absurd (n (sym (t .is) ∙ ap (λ (j : ℕ). axis (entry m j)) q))

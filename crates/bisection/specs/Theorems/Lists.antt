@@ -35,6 +35,7 @@ module _ {A : Type 0} (z : A) (n : ℕ) (x : A) (l : List A) (h : n < length l) 
     where
       e : suc n + (i - suc n) ≡ i
       e = omega arith
+
       f : length front + suc (i - suc n) ≡ suc n + (i - suc n)
       f = omega (arith, front-length)
 

@@ -67,25 +67,37 @@ module _ {code : List ℕ} {vs : Cell} (c : IsCell code vs) (i : ℕ) (il : i �
   table e = beside (coded c) i il e
 
   pub across-unblocked : isBlocked code i ≡ false → Across code i (tableCode code i) (tablePlace code i)
-  across-unblocked e = record
-    { shares = record
-      { vs = vs; ws = ws; cell = c; cell' = cell'; another = another
-      ; dimension = unfold bytes dimensionOf in refl; depth = unfold bytes depthOf in refl
-      ; has = λ v q. facet-part ws j room (subst (List·Memᴰ v) (b .facets) q) }
-    ; only = λ code'' s. b .only (shares-coded s) (shares-has c s) (s .another)
-    ; place = b .within
-    ; new = b .new }
+  across-unblocked e = record {
+    shares = record {
+      vs = vs;
+      ws = ws;
+      cell = c;
+      cell' = cell';
+      another = another;
+      dimension = unfold bytes dimensionOf in refl;
+      depth = unfold bytes depthOf in refl;
+      has = λ v q. facet-part ws j room (subst (List·Memᴰ v) (b .facets) q);
+    };
+    only = λ code'' s. b .only (shares-coded s) (shares-has c s) (s .another);
+    place = b .within;
+    new = b .new;
+  }
     where
       j : ℕ
       j = tablePlace code i
+
       ws : Cell
       ws = tableCell code i
+
       b : Beside (dimensionOf code) (depthOf code) code vs i (tableCode code i) ws j
       b = table e
+
       cell' : IsCell (tableCode code i) ws
       cell' = b .coded' .cell
+
       room : j < length ws
       room = omega (arith, b .within, b .coded' .drawn .sized .size)
+
       another : code ≢ tableCode code i
       another q = b .new (subst (List·Memᴰ (vertex ws j)) (one-cell cell' (subst (λ (x : List ℕ). IsCell x vs) q c)) (place-mem [] ws j room))
 
@@ -167,9 +179,16 @@ module _ {code code' : List ℕ} {vs ws : Cell} {i j : ℕ} (c : IsCell code vs)
 
   -- crossing back: the first cell has all vertices of facet j of the second
   pub shares-back : Shares j code' code
-  shares-back = record
-    { vs = ws; ws = vs; cell = c'; cell' = c; another = λ e. x .shares .another (sym e); dimension = sym (x .shares .dimension); depth = sym (x .shares .depth)
-    ; has = λ v q. facet-part vs i (omega (arith, size)) (subst (List·Memᴰ v) (sym across-facets) q) }
+  shares-back = record {
+    vs = ws;
+    ws = vs;
+    cell = c';
+    cell' = c;
+    another = λ e. x .shares .another (sym e);
+    dimension = sym (x .shares .dimension);
+    depth = sym (x .shares .depth);
+    has = λ v q. facet-part vs i (omega (arith, size)) (subst (List·Memᴰ v) (sym across-facets) q);
+  }
 
 -- an answer is determined
 pub across-determined : {code : List ℕ} {i : ℕ} {code' code'' : List ℕ} {j j' : ℕ} → i ≤ dimensionOf code → Across code i code' j → Across code i code'' j' → (code' ≡ code'') × (j ≡ j')
@@ -177,8 +196,10 @@ across-determined {code} {i} {code'} {code''} il x y = (across-code a b il x ∙
   where
     a : IsCell code (x .shares .vs)
     a = x .shares .cell
+
     b : IsCell code' (x .shares .ws)
     b = x .shares .cell'
+
     d : IsCell code'' (y .shares .ws)
     d = y .shares .cell'
 
@@ -207,6 +228,7 @@ module _ {code code' : List ℕ} {vs ws : Cell} {i j : ℕ} (c : IsCell code vs)
     where
       room : length vs ≡ suc (dimensionOf code)
       room = size c c' il x
+
       go : Dec (tablePlace code' j ≡ i) → tablePlace code' j ≡ i
       go (yes e) = e
       go (no e) = absurd (across-new c' c jl back-at (has (vertex vs (tablePlace code' j)) (facet-mem vs i (omega (arith, room)) (tablePlace code' j) (omega (arith, room, there .place, x .shares .dimension)) e)))

@@ -104,6 +104,7 @@ axis-tells {d} {k} {s} w lo lo' n n' i l e = go (decLe (suc i) k)
   where
     first : near lo s n ≡ near lo' s n'
     first = sym (closed-near lo s n i k 0 (omega arith)) ∙ e 0 (omega arith) ∙ closed-near lo' s n' i k 0 (omega arith)
+
     go : Dec (suc i ≤ k) → (n ≡ n') × (lo ≡ lo')
     go (yes h) = let t : (n ≡ n') × (s ≡ s) × (lo ≡ lo') = sides-tell lo lo' s s n n' (w .some) first (sym (closed-far lo s n i k (suc i) (omega arith) h) ∙ e (suc i) l ∙ closed-far lo' s n' i k (suc i) (omega arith) h) in (t .0, t .2)
     go (no h) = (near-tells lo s n n' (w .some) (first ∙ ap (λ (u : ℕ). near u s n') (sym low)), low)
@@ -193,10 +194,11 @@ module _ {d D D' : ℕ} {m m' : Name} {vs : Cell} (d0 : 0 < d) (h : D ≤ greate
   same-orthants : m .orthants ≡ m' .orthants
   same-orthants = ext-getD 0 (m .orthants) (m' .orthants) same-count
       (λ t l. bits-same d (getD (m .orthants) t 0) (getD (m' .orthants) t 0) (p .boxes .fit t (omega (arith, p .boxes .count))) (p' .boxes .fit t (omega (arith, p .boxes .count, box-is)))
-        (λ a la ua. bit t l (stands (p .signed) a la ua)))
+      (λ a la ua. bit t l (stands (p .signed) a la ua)))
     where
       fits : 0 + length (m .orthants) ≤ halvings
       fits = omega (arith, p .boxes .count, box-in d D d0 h)
+
       bit : (t : ℕ) → t < length (m .orthants) → {a : ℕ} → Stands (m .entries) a d → high (getD (m .orthants) t 0) a ≡ high (getD (m' .orthants) t 0) a
       bit t l s = subst (λ (a : ℕ). high (getD (m .orthants) t 0) a ≡ high (getD (m' .orthants) t 0) a) (s .is)
           (low-tells (axis (entry m (s .place))) 0 (m .orthants) (m' .orthants) same-count fits (told-at (s .place) (s .below) .1) t l)
@@ -210,13 +212,17 @@ one-code {code} {root} {path} {code'} {root'} {path'} c c' e = c .is ∙ codes �
   where
     r : Drawn (length root) (length path) (nameOf root path) (cellOf root path)
     r = closed-form root path (c .good-root) (c .good-path .depth)
+
     r' : Drawn (length root') (length path') (nameOf root' path') (cellOf root' path')
     r' = closed-form root' path' (c' .good-root) (c' .good-path .depth)
+
     dims : length root' ≡ length root
     dims = omega (arith, r .sized .size, r' .sized .size, ap length e)
+
     s : SameName (length root) (length path) (length path') (nameOf root path) (nameOf root' path')
     s = same-name (some-axes (c .good-root .dimension)) (c .good-path .depth) (subst (λ (d : ℕ). length path' ≤ greatestDepth d) dims (c' .good-path .depth))
         (name-passes (c .good-root) path) (subst (λ (d : ℕ). Passes d (length path') (nameOf root' path')) dims (name-passes (c' .good-root) path'))
         r (subst (λ (d : ℕ). Drawn d (length path') (nameOf root' path') (cellOf root path)) dims (subst (Drawn (length root') (length path') (nameOf root' path')) (sym e) r'))
+
     codes : codeOf root path ≡ codeOf root' path'
     codes = unfold codeOf in rw (dims, s .depth, s .name) refl

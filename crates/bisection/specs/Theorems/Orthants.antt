@@ -10,7 +10,7 @@ use native.Mathlib.Decide.{ℕ-discrete, decLt}
 use lib.Dec.{T, eqb}
 use lib.ListN.{length, getD, length-append}
 use lib.Seq.{getD-at}
-use lib.Pow.{pow-pos, pow-add, split, shr-lt} 
+use lib.Pow.{pow-pos, pow-add, split, shr-lt}
 use lib.Pow.{high as high-part}
 use borrow.Author.Tests.{eq-eqb, ne-eqb, eqb-true, eqb-false}
 use Rattle.bisection.specs.Codes.{axis, minus, high, minusOn, orthantTo, orthant}
@@ -22,8 +22,10 @@ low-bit c n x i h = ap (λ (u : ℕ). (u + x) / 2 ^ i % 2) parts ∙ ap (λ (u :
   where
     sum : n - suc i + suc i ≡ n
     sum = omega arith
+
     two : 2 ^ suc i ≡ 2 * 2 ^ i
     two = omega arith
+
     parts : c * 2 ^ n ≡ c * 2 ^ (n - suc i) * 2 * 2 ^ i
     parts = ap (λ (u : ℕ). c * u) (ap (λ (u : ℕ). 2 ^ u) (sym sum) ∙ pow-add 2 (n - suc i) (suc i) ∙ ap (λ (u : ℕ). 2 ^ (n - suc i) * u) two)
         ∙ sym (mul-assoc c (2 ^ (n - suc i)) (2 * 2 ^ i)) ∙ sym (mul-assoc (c * 2 ^ (n - suc i)) 2 (2 ^ i))
@@ -57,8 +59,10 @@ orthantTo-high (suc n) es a h l = go (ℕ-discrete a (suc n)) (orthantTo-high n 
   where
     t : Bool
     t = minusOn es (suc n)
+
     sum : cond t (2 ^ n) 0 + orthantTo n es ≡ digit t * 2 ^ n + orthantTo n es
     sum = digit-times t n (orthantTo n es)
+
     go : Dec (a ≡ suc n) → (a ≤ n → eqb (orthantTo n es / 2 ^ (a - 1) % 2) 1 ≡ minusOn es a) → eqb ((cond t (2 ^ n) 0 + orthantTo n es) / 2 ^ (a - 1) % 2) 1 ≡ minusOn es a
     go (yes e) ih = ap (λ (u : ℕ). eqb (u / 2 ^ (a - 1) % 2) 1) sum ∙ ap (λ (u : ℕ). eqb ((digit t * 2 ^ n + orthantTo n es) / 2 ^ u % 2) 1) less
         ∙ ap (λ (u : ℕ). eqb (u % 2) 1) (high-part (digit t) n (orthantTo-fits n es)) ∙ digit-test t ∙ ap (minusOn es) (sym e)

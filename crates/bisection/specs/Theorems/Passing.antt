@@ -141,20 +141,26 @@ module _ (d D : ℕ) (d0 : 0 < d) (small : d < 128) where
     where
       es : List ℕ
       es = stepped b (splitPlace d D) (m .entries)
+
       signed : Signed d es
       signed = rw split-suc (signed-stepped (p .signed) n n-in small b)
+
       own : Own n es (m .orthants)
       own = rw split-suc (own-stepped (p .signed) n n-in small (m .orthants) (rw split-suc at (p .own)) b)
+
       within : Within d D → Passes d (suc D) (step d D b m)
-      within w = record
-        { signed = signed
-        ; boxes = rw (w .level, w .box) (p .boxes)
-        ; own = rw (w .level) (subst (λ (k : ℕ). Own k es (m .orthants)) (omega (arith, w .split, split-suc)) own) }
+      within w = record {
+        signed = signed;
+        boxes = rw (w .level, w .box) (p .boxes);
+        own = rw (w .level) (subst (λ (k : ℕ). Own k es (m .orthants)) (omega (arith, w .split, split-suc)) own);
+      }
+
       turn : Turned d D → Passes d (suc D) (step d D b m)
-      turn w = record
-        { signed = signed
-        ; boxes = rw (w .level, w .box) (boxes-more (p .boxes) (orthant es) (orthant-fits signed))
-        ; own = rw (w .level, w .split) (own-new signed (m .orthants)) }
+      turn w = record {
+        signed = signed;
+        boxes = rw (w .level, w .box) (boxes-more (p .boxes) (orthant es) (orthant-fits signed));
+        own = rw (w .level, w .split) (own-new signed (m .orthants));
+      }
 
   -- a step is undone by the parent
   fewer-step : (m : Name) → Passes d D m → (b : ℕ) → fewer d D ((step d D b m) .orthants) ≡ m .orthants
@@ -163,6 +169,7 @@ module _ (d D : ℕ) (d0 : 0 < d) (small : d < 128) where
     where
       within : Within d D → fewer d D ((step d D b m) .orthants) ≡ m .orthants
       within w = rw (w .level) (take-all (boxDepth d D) (m .orthants) (omega (arith, p .boxes .count)))
+
       turn : Turned d D → fewer d D ((step d D b m) .orthants) ≡ m .orthants
       turn w = rw (w .level) (take-at (m .orthants) (orthant (stepped b (splitPlace d D) (m .entries)) ∷ []) (boxDepth d D) (p .boxes .count))
 
@@ -238,8 +245,10 @@ module _ (d D : ℕ) (d0 : 0 < d) (small : d < 128) (m : Name) (p : Passes d (su
     where
       low : axis (getD es k 0) < 128
       low = omega (arith, p .signed .high k k-in)
+
       Goal : Bool → Type 0
       Goal t = Signed d (unstepped (cond t 0 1) k es) × Own (suc k) (unstepped (cond t 0 1) k es) os × (stepped (cond t 0 1) (suc k) (unstepped (cond t 0 1) k es) ≡ es)
+
       go : (t : Bool) → sameSign (minus (getD es k 0)) (ownMinus os (axis (getD es k 0))) ≡ t → Goal t
       go true e = (p .signed, record { sign = λ i l. sign i l (ℕ-discrete i k) }, refl)
         where
@@ -267,13 +276,16 @@ module _ (d D : ℕ) (d0 : 0 < d) (small : d < 128) (m : Name) (p : Passes d (su
     where
       within : Within d D → cond (eqb (level d (suc D)) 0) (os ++ orthant es ∷ []) os ≡ m .orthants
       within w = rw (w .level) (take-all (boxDepth d D) (m .orthants) (omega (arith, p .boxes .count, w .box)))
+
       turn : Turned d D → cond (eqb (level d (suc D)) 0) (os ++ orthant es ∷ []) os ≡ m .orthants
       turn w = rw (w .level) (ap (λ (o : ℕ). take (boxDepth d D) (m .orthants) ++ o ∷ []) (sym only) ∙ sym last)
         where
           b : Boxes d (suc (boxDepth d D)) (m .orthants)
           b = rw (w .box) at (p .boxes)
+
           last : m .orthants ≡ take (boxDepth d D) (m .orthants) ++ getD (m .orthants) (boxDepth d D) 0 ∷ []
           last = boxes-last b
+
           only : getD (m .orthants) (boxDepth d D) 0 ≡ orthant (m .entries)
           only = orthant-only (p .signed) (getD (m .orthants) (boxDepth d D) 0) (b .fit (boxDepth d D) (omega arith))
               (λ i l. p .own .sign i (rw (w .split) l) ∙ ap (λ (l : List ℕ). ownMinus l (axis (getD (m .entries) i 0))) last ∙ own-snoc (take (boxDepth d D) (m .orthants)) (getD (m .orthants) (boxDepth d D) 0) (axis (getD (m .entries) i 0)))

@@ -60,17 +60,20 @@ unfolding ownMinus high
 own-none a = rw (zero-div (2 ^ (a - 1)))
 
 pub root-passes : (root : List ℕ) → 0 < length root → length root < 128 → Permutation root → Passes (length root) 0 (rootName root)
-root-passes root d0 small p = record
-  { signed = record
-    { size = refl
-    ; low = λ i l. rw (is i l) (p .low i l)
-    ; high = λ i l. rw (is i l) (p .high i l)
-    ; apart = λ i j l m e. p .apart i j l m (sym (is i l) ∙ e ∙ is j m) }
-  ; boxes = rw (at-root (length root) d0 .0) (record { count = refl; fit = λ t l. absurd (omega arith) })
-  ; own = rw (at-root (length root) d0 .1) (record { sign = λ i l. plain i l ∙ sym (own-none (axis (getD root i 0))) }) }
+root-passes root d0 small p = record {
+  signed = record {
+    size = refl;
+    low = λ i l. rw (is i l) (p .low i l);
+    high = λ i l. rw (is i l) (p .high i l);
+    apart = λ i j l m e. p .apart i j l m (sym (is i l) ∙ e ∙ is j m);
+  };
+  boxes = rw (at-root (length root) d0 .0) (record { count = refl; fit = λ t l. absurd (omega arith) });
+  own = rw (at-root (length root) d0 .1) (record { sign = λ i l. plain i l ∙ sym (own-none (axis (getD root i 0))) });
+}
   where
     plain : (i : ℕ) → i < length root → minus (getD root i 0) ≡ false
     plain i l = plain-minus (getD root i 0) (omega (arith, p .high i l))
+
     is : (i : ℕ) → i < length root → axis (getD root i 0) ≡ getD root i 0
     is i l = plain-axis (getD root i 0) (plain i l)
 
@@ -85,18 +88,22 @@ empty [] e = refl
 empty (o ∷ os) e = absurd (omega arith)
 
 pub passes-root : (d : ℕ) → 0 < d → (m : Name) → Passes d 0 m → RootName d m
-passes-root d d0 m p = record
-  { size = size
-  ; permutation = record
-    { low = λ i l. subst (λ (e : ℕ). 1 ≤ e) (is i (omega arith)) (p .signed .low i (omega arith))
-    ; high = λ i l. subst (λ (e : ℕ). e ≤ length (m .entries)) (is i (omega arith)) (omega (arith, p .signed .high i (omega arith)))
-    ; apart = λ i j l k e. p .signed .apart i j (omega arith) (omega arith) (is i (omega arith) ∙ e ∙ sym (is j (omega arith))) }
-  ; none = λ i. record { entries = m .entries; orthants = none i } }
+passes-root d d0 m p = record {
+  size = size;
+  permutation = record {
+    low = λ i l. subst (λ (e : ℕ). 1 ≤ e) (is i (omega arith)) (p .signed .low i (omega arith));
+    high = λ i l. subst (λ (e : ℕ). e ≤ length (m .entries)) (is i (omega arith)) (omega (arith, p .signed .high i (omega arith)));
+    apart = λ i j l k e. p .signed .apart i j (omega arith) (omega arith) (is i (omega arith) ∙ e ∙ sym (is j (omega arith)));
+  };
+  none = λ i. record { entries = m .entries; orthants = none i };
+}
   where
     size : length (m .entries) ≡ d
     size = p .signed .size
+
     none : m .orthants ≡ []
     none = empty (m .orthants) (p .boxes .count ∙ at-root d d0 .0)
+
     is : (i : ℕ) → i < d → axis (getD (m .entries) i 0) ≡ getD (m .entries) i 0
     is i l = plain-axis (getD (m .entries) i 0) (p .own .sign i (rw (at-root d d0 .1) l) ∙ ap (λ (os : List ℕ). ownMinus os (axis (getD (m .entries) i 0))) none ∙ own-none (axis (getD (m .entries) i 0)))
 

@@ -101,9 +101,10 @@ unfoldable pub blocked : ℕ → ℕ → ℕ → Name → Bool
 blocked d D i m = blockedBy d (moveOf d D i m) m
 
 unfoldable pub acrossName : ℕ → ℕ → ℕ → Name → Name
-acrossName d D i m = record
-  { entries = entriesBy d (splitPlace d D) (moveOf d D i m) (m .entries)
-  ; orthants = orthantsBy d (moveOf d D i m) m }
+acrossName d D i m = record {
+  entries = entriesBy d (splitPlace d D) (moveOf d D i m) (m .entries);
+  orthants = orthantsBy d (moveOf d D i m) m;
+}
 
 unfoldable pub newPlace : ℕ → ℕ → ℕ → Name → ℕ
 newPlace d D i m = newAt d (splitPlace d D) (moveOf d D i m)

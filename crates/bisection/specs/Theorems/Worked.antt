@@ -50,12 +50,13 @@ pub record Rows : Type 0 where
 
 pub rows : Rows
 unfolding isDimension halvings greatestDepth codeLength splitPlace level boxDepth axis minus negated turned high bytes dimensionOf depthOf entriesOf orthantsOf partsOf need _then_ each fresh permutes orthantsFit signsOwn headRefusal bodyRefusal codeRefusal ownMinus unturned move newAt exchanged negatedAt entriesBy flipped runsOut carried orthantsBy blockedBy nextOwn moveOf blocked acrossName newPlace
-rows = record
-  { P6-across-1 = across-row P1 1 refl (omega arith) (2 ∷ 0 ∷ 2 ∷ 1 ∷ []) 1 refl refl refl
-  ; P6-face-0 = face-row P1 0 refl (omega arith) refl
-  ; P6-face-2 = face-row P1 2 refl (omega arith) refl
-  ; P7-across-0 = across-row beforeP2 0 refl (omega arith) P2 1 refl refl refl
-  ; P7-back-1 = across-row P2 1 refl (omega arith) beforeP2 0 refl refl refl
-  ; P8-across-0 = across-row P3 0 refl (omega arith) (2 ∷ 2 ∷ 1 ∷ 2 ∷ 0 ∷ []) 0 refl refl refl
-  ; P8-across-1 = across-row P3 1 refl (omega arith) (2 ∷ 2 ∷ 2 ∷ 129 ∷ 1 ∷ []) 1 refl refl refl
-  ; P8-face-2 = face-row P3 2 refl (omega arith) refl }
+rows = record {
+  P6-across-1 = across-row P1 1 refl (omega arith) (2 ∷ 0 ∷ 2 ∷ 1 ∷ []) 1 refl refl refl;
+  P6-face-0 = face-row P1 0 refl (omega arith) refl;
+  P6-face-2 = face-row P1 2 refl (omega arith) refl;
+  P7-across-0 = across-row beforeP2 0 refl (omega arith) P2 1 refl refl refl;
+  P7-back-1 = across-row P2 1 refl (omega arith) beforeP2 0 refl refl refl;
+  P8-across-0 = across-row P3 0 refl (omega arith) (2 ∷ 2 ∷ 1 ∷ 2 ∷ 0 ∷ []) 0 refl refl refl;
+  P8-across-1 = across-row P3 1 refl (omega arith) (2 ∷ 2 ∷ 2 ∷ 129 ∷ 1 ∷ []) 1 refl refl refl;
+  P8-face-2 = face-row P3 2 refl (omega arith) refl;
+}

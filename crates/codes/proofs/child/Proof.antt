@@ -73,10 +73,10 @@ same-length c = search needs
 
 returns-5 : tie.Need-returns-5
 unfolding dimensionOf depthOf
-returns-5 c = 
+returns-5 c =
     let n = length-next _ _ _ _ _ (c .before .before .before .before .before .code-length .ensures) (c .before .before .before .before .before .before .before .before .before .before .checked .ensures) (c .before .before .before .before .before .before .before .before .size .ensures) in
     done-writes _ _ (child-0 (c .before .before .before .before .before .before .before .before .before .before .before .before .before .before .before .before .before .args .code .now) (c .before .before .before .before .before .before .before .before .before .before .before .before .before .before .before .before .before .args .which) (length (c .before .before .before .before .before .before .before .before .before .before .before .before .before .before .before .before .before .args .out .now)) (sym (c .before .before .before .before .before .before .before .before .before .before .before .before .before .before .code-check .ensures) ∙ c .before .before .before .before .before .before .before .before .before .before .before .before .before .if1 .left) (c .before .before .before .before .before .before .before .before .before .before .before .before .if2 .left) (below-as _ _ _ _ _ (c .before .before .before .before .before .before .before .greatest-depth .ensures) (c .before .before .before .before .before .before .before .before .before .before .checked .ensures) (c .before .before .before .before .before .before .before .before .size .ensures) (c .before .before .before .before .before .before .if3 .left)) (rw (← n) (c .before .before .before .before .if4 .left)))
-      (n ∙ child-length (c .before .before .before .before .before .before .before .before .before .before .before .before .before .before .before .before .before .args .code .now) (c .before .before .before .before .before .before .before .before .before .before .before .before .before .before .before .before .before .args .which) (sym (c .before .before .before .before .before .before .before .before .before .before .before .before .before .before .code-check .ensures) ∙ c .before .before .before .before .before .before .before .before .before .before .before .before .before .if1 .left)) (c .before .before .write-child .ensures ∙ ap (λ (m : ℕ). childCode (c .before .before .before .before .before .before .before .before .before .before .before .before .before .before .before .before .before .args .which) (c .before .before .before .before .before .before .before .before .before .before .before .before .before .before .before .before .before .args .code .now) ++ drop m (c .before .before .before .before .before .before .before .before .before .before .before .before .before .before .before .before .before .args .out .now)) (sym (c .before .before .before .before .before .code-length .ensures ∙ ap (codeLength (axesOf (c .before .before .before .before .before .before .before .before .before .before .checked .result))) (add-one (c .before .before .before .before .before .before .before .before .size .result)))))
+    (n ∙ child-length (c .before .before .before .before .before .before .before .before .before .before .before .before .before .before .before .before .before .args .code .now) (c .before .before .before .before .before .before .before .before .before .before .before .before .before .before .before .before .before .args .which) (sym (c .before .before .before .before .before .before .before .before .before .before .before .before .before .before .code-check .ensures) ∙ c .before .before .before .before .before .before .before .before .before .before .before .before .before .if1 .left)) (c .before .before .write-child .ensures ∙ ap (λ (m : ℕ). childCode (c .before .before .before .before .before .before .before .before .before .before .before .before .before .before .before .before .before .args .which) (c .before .before .before .before .before .before .before .before .before .before .before .before .before .before .before .before .before .args .code .now) ++ drop m (c .before .before .before .before .before .before .before .before .before .before .before .before .before .before .before .before .before .args .out .now)) (sym (c .before .before .before .before .before .code-length .ensures ∙ ap (codeLength (axesOf (c .before .before .before .before .before .before .before .before .before .before .checked .result))) (add-one (c .before .before .before .before .before .before .before .before .size .result)))))
 
 pub child-spec : {M : Type 1} → statement M
 child-spec =

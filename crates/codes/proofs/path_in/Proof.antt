@@ -57,7 +57,7 @@ same-length : tie.Need-same-length
 same-length c = search needs
 
 returns-5 : tie.Need-returns-5
-returns-5 c = 
+returns-5 c =
     let e = (c .before .before .before .before .before .code-length .ensures ∙ ap (λ (n : ℕ). codeLength n (length (c .before .before .before .before .before .before .before .before .before .before .before .before .before .before .before .args .path .now))) (c .before .before .before .before .before .before .before .before .before .before .before .before .before .before .before .pre)) in
     done-writes _ _ (path-0 (c .before .before .before .before .before .before .before .before .before .before .before .before .before .before .before .args .root .now) (c .before .before .before .before .before .before .before .before .before .before .before .before .before .before .before .args .path .now) (length (c .before .before .before .before .before .before .before .before .before .before .before .before .before .before .before .args .code .now)) (rw (← c .before .before .before .before .before .before .before .before .before .before .before .before .before .before .before .pre) (axes-dimension (c .before .before .before .before .before .before .before .before .before .before .before .before .before .before .before .args .dim))) (subst (λ (n : ℕ). length (c .before .before .before .before .before .before .before .before .before .before .before .before .before .before .before .args .path .now) ≤ greatestDepth n) (c .before .before .before .before .before .before .before .before .before .before .before .before .before .before .before .pre) (omega (arith, c .before .before .before .before .before .before .before .before .before .before .before .greatest-depth .ensures, c .before .before .before .before .before .before .before .before .before .before .if1 .left))) (sym (c .before .before .before .before .before .before .before .before .before .is-root .ensures) ∙ not-false _ (c .before .before .before .before .before .before .before .before .if2 .left)) (sym (c .before .before .before .before .before .before .before .is-path .ensures) ∙ not-false _ (c .before .before .before .before .before .before .if3 .left)) (rw (← e) (c .before .before .before .before .if4 .left))) (e ∙ code-of-length (c .before .before .before .before .before .before .before .before .before .before .before .before .before .before .before .args .root .now) (c .before .before .before .before .before .before .before .before .before .before .before .before .before .before .before .args .path .now) (good-root (c .before .before .before .before .before .before .before .before .before .before .before .before .before .before .before .args .root .now) (rw (← c .before .before .before .before .before .before .before .before .before .before .before .before .before .before .before .pre) (axes-dimension (c .before .before .before .before .before .before .before .before .before .before .before .before .before .before .before .args .dim))) (sym (c .before .before .before .before .before .before .before .before .before .is-root .ensures) ∙ not-false _ (c .before .before .before .before .before .before .before .before .if2 .left)))) (c .before .before .write-code .ensures ∙ ap (λ (m : ℕ). codeOf (c .before .before .before .before .before .before .before .before .before .before .before .before .before .before .before .args .root .now) (c .before .before .before .before .before .before .before .before .before .before .before .before .before .before .before .args .path .now) ++ drop m (c .before .before .before .before .before .before .before .before .before .before .before .before .before .before .before .args .code .now)) (sym (c .before .before .before .before .before .code-length .ensures)))
 

@@ -14,8 +14,6 @@ use Rattle.steps.specs.Above.{above-ready, go-boxes, go-place, own-by, boxes-ro
 use Rattle.positions.specs.Fours.{four, ready-is}
 use Rattle.positions.specs.Walks.{WalkReady, Walked, walk-none, walk-next, walk-done, step-small, half-small, one-of, more-of}
 use borrow.Author.Needs.{needs}
-
-
 use Rattle.positions.proofs.walk.Statement.{statement}
 use Rattle.positions.proofs.walk.Tie as tie
 

@@ -61,16 +61,18 @@ module _ {d k p x y : ℕ} (o : Fits d k p x y) (k1 : 1 ≤ k) where
   axis-good a-far (c-far f) = go (ℕ-discrete p d)
     where
       go : Dec (p ≡ d) → Fine k (apply d k farther p x y)
-      go (yes e) = simp applies (record
-          { sides = record { down = omega (arith, f e, o .sides); up = omega (arith, f e, o .sides); apart = omega (arith, f e, o .sides) }
-          ; even = o .even })
+      go (yes e) = simp applies (record {
+        sides = record { down = omega (arith, f e, o .sides); up = omega (arith, f e, o .sides); apart = omega (arith, f e, o .sides) };
+        even = o .even;
+      })
       go (no e) = simp applies (as-is p (o .even))
   axis-good (a-near q) (c-near f) = go (ℕ-discrete p 1)
     where
       go : Dec (p ≡ 1) → Fine k (apply d k nearer p x y)
-      go (yes e) = simp applies (record
-          { sides = record { down = omega (arith, f e, o .sides); up = omega (arith, f e, o .sides); apart = omega (arith, f e, o .sides) }
-          ; even = λ h. even-back (o .sides) (o .even h) })
+      go (yes e) = simp applies (record {
+        sides = record { down = omega (arith, f e, o .sides); up = omega (arith, f e, o .sides); apart = omega (arith, f e, o .sides) };
+        even = λ h. even-back (o .sides) (o .even h);
+      })
       go (no e) = simp applies (as-is p (o .even))
   axis-good (a-left kd) (c-left f) = go (ℕ-discrete p 1) (decLe p (suc k)) (ℕ-discrete p (suc k))
     where
@@ -103,6 +105,7 @@ module _ {d k : ℕ} {c : Frame} (g : GoodFrame d k c) (kd : k < d) where
     where
       w : a ≡ c .axis (suc k)
       w = at-axis (g .perm) a (suc k) l q
+
       go : Dec (c .near a % 2 ≡ 0) → c .far a % 2 ≡ 0
       go (yes z) = absurd (subst T (sym (eq-eqb (c .near (c .axis (suc k)) % 2) 0 (subst (λ (b : ℕ). c .near b % 2 ≡ 0) w z)) ∙ e) tt)
       go (no z) = omega (arith, sides-odd (g .sides a l))

@@ -65,6 +65,7 @@ module _ {d k p x y p' x' y' : ℕ} (o : Fits d k p x y) (o' : Fits d k p' x' y'
     where
       top : p' ≤ suc k
       top = was-after (o' .sides) k p' (suc k) (λ r. o .sides .apart (omega (arith, row-past k p x y (suc k) (omega arith) (omega arith))))
+
       go : Dec (p' ≤ k) → p' ≡ suc k
       go (yes h) = absurd (omega (arith, sides-odd (o .sides), o .even (omega arith), o' .even h))
       go (no h) = omega (arith, top)
@@ -80,12 +81,16 @@ module _ {d k p x y p' x' y' : ℕ} (o : Fits d k p x y) (o' : Fits d k p' x' y'
     where
       one : row k p x y 1 ≡ row k p' x' y' 1
       one = agree 1 (omega arith) (omega arith)
+
       last : row k p x y d ≡ row k p' x' y' d
       last = agree d (omega arith) (omega arith)
+
       mid : row k p x y (suc k) ≡ row k p' x' y' (suc k)
       mid = agree (suc k) (omega arith) (omega arith)
+
       total : x + y ≡ x' + y'
       total = omega (arith, last, row-past k p x y d (o .last) kd, row-past k p' x' y' d (o' .last) kd)
+
       go : Dec (p ≡ 1) → Dec (p' ≡ 1) → Traded
       go (yes a) (yes b) =
           let w : y' ≡ y = omega (arith, one, row-in k p x y 1 (omega arith) k1, row-in k p' x' y' 1 (omega arith) k1) in
@@ -102,6 +107,7 @@ module _ {d k p x y p' x' y' : ℕ} (o : Fits d k p x y) (o' : Fits d k p' x' y'
         where
           w : x ≡ x'
           w = omega (arith, one, row-before k p x y 1 (omega (arith, o .first)), row-before k p' x' y' 1 (omega (arith, o' .first)))
+
           order : Dec (p < p') → Dec (p' < p) → p' ≡ p
           order (yes c) e = absurd (omega (arith, go-after (o .sides) (o' .sides) w k p p' p p (agree p (o .last) (omega arith)) (omega arith)))
           order (no c) (yes e) = absurd (omega (arith, go-after (o' .sides) (o .sides) (sym w) k p' p p' p' (sym (agree p' (o' .last) (omega arith))) (omega arith)))
@@ -143,22 +149,29 @@ module _ {d k p x y p' x' y' : ℕ} (o : Fits d k p x y) (o' : Fits d k p' x' y'
       where
         last : row k p x y d ≡ row k p' x' y' d
         last = other d kd (omega arith)
+
         mid : row k p x y (suc k) ≡ row k p' x' y' (suc k)
         mid = other (suc k) (omega arith) (omega arith)
+
         total : x + y ≡ x' + y'
         total = omega (arith, last, row-past k p x y d (o .last) kd, row-past k p' x' y' d (o' .last) kd)
+
         go : Dec (p ≡ 1) → Turn k p x y p' x' y'
         go (yes a) = let f : (p' ≡ suc k) × (y' ≡ x) = flipped o o' a k1 kd (turn-first a) last mid in first a (f .0) (turn-first a) (f .1)
         go (no a) = rest (decLe p k) (ℕ-discrete p (suc k))
           where
             w : x ≡ x'
             w = omega (arith, corner 0 k1, row-before k p x y 1 (omega (arith, o .first)), row-before k p' x' y' 0 (o' .first))
+
             v : y' ≡ y
             v = omega (arith, total, w)
+
             after : (i j : ℕ) → row k p x y i ≡ row k p' x' y' j → p ≤ i → p' ≤ j
             after i j = go-after (o .sides) (o' .sides) w k p p' i j
+
             before : (i j : ℕ) → row k p x y i ≡ row k p' x' y' j → i < p → j < p'
             before i j = go-before (o .sides) (o' .sides) w k p p' i j
+
             rest : Dec (p ≤ k) → Dec (p ≡ suc k) → Turn k p x y p' x' y'
             rest (yes b) c = inner (omega (arith, o .first)) b
                 (omega (arith, after (suc (p - 1)) (p - 1) (corner (p - 1) (omega arith)) (omega arith), before (suc (p - 2)) (p - 2) (corner (p - 2) (omega arith)) (omega (arith, o .first)), o .first)) (sym w) v

@@ -127,16 +127,18 @@ module _ {d D : ℕ} {code : List ℕ} {vs : Cell} (c : Coded d D code vs) (i : 
 
   pub beside : Beside d D code vs i (bytes d D (acrossName d D i (partsOf code))) (cellOf (rootOf (bytes d D (acrossName d D i (partsOf code)))) (pathOf (bytes d D (acrossName d D i (partsOf code))))) (newPlace d D i (partsOf code))
   unfolding newPlace code' m' ws
-  beside = record
-    { coded' = c'
-    ; within = within
-    ; facets = same-facets (side c) (scaled-of c) (scaled-of c') i (newAt d (splitPlace d D) (moveOf d D i (partsOf code))) il within (in-order-meets (range c .0) (range c .1) il (good-of c) (good-of c') seen landed)
-    ; ends = ends seen
-    ; new = λ q. new-not (range c .0) (range c .1) il (good-of c) (good-of c') seen landed (mem-among (side c) (scaled-of c') (scaled-of c) (newAt d (splitPlace d D) (moveOf d D i (partsOf code))) within q)
-    ; only = only }
+  beside = record {
+    coded' = c';
+    within = within;
+    facets = same-facets (side c) (scaled-of c) (scaled-of c') i (newAt d (splitPlace d D) (moveOf d D i (partsOf code))) il within (in-order-meets (range c .0) (range c .1) il (good-of c) (good-of c') seen landed);
+    ends = ends seen;
+    new = λ q. new-not (range c .0) (range c .1) il (good-of c) (good-of c') seen landed (mem-among (side c) (scaled-of c') (scaled-of c) (newAt d (splitPlace d D) (moveOf d D i (partsOf code))) within q);
+    only = only;
+  }
     where
       within : newAt d (splitPlace d D) (moveOf d D i (partsOf code)) ≤ d
       within = new-within (range c .1) (allowed (range c .0) (range c .1) il seen)
+
       only : {code'' : List ℕ} {us : Cell} → Coded d D code'' us → HasAll (facet i vs) us → code ≢ code'' → code'' ≡ code'
       only {code''} b h n = go (same-or-across c i il b h)
         where

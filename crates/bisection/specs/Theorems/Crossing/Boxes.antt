@@ -50,6 +50,7 @@ boxLow-boxAt a M (o ∷ os) h = rw (add-suc M (length os), ← suc-add M (length
   where
     s : ℕ
     s = sideAfter (suc M + length os)
+
     go : (t : Bool) → boxLow a (suc M) os ≡ s * boxAt a os → sideAfter (suc M) ≡ s * 2 ^ length os → cond t (sideAfter (suc M)) 0 + boxLow a (suc M) os ≡ s * (cond t (2 ^ length os) 0 + boxAt a os)
     go true e f = omega arith
     go false e f = omega arith

@@ -28,18 +28,21 @@ pub record Coded (d D : ℕ) (code : List ℕ) (vs : Cell) : Type 0 where
   pub drawn : Drawn d D (partsOf code) vs
 
 pub coded : {code : List ℕ} {vs : Cell} → IsCell code vs → Coded (dimensionOf code) (depthOf code) code vs
-coded {code} {vs} c = record
-  { cell = c
-  ; dimension = rw (is, dimension-of-code root path) (c .code-of .good-root .dimension)
-  ; deep = rw (is, dimension-of-code root path, depth-of-code root path) (c .code-of .good-path .depth)
-  ; passes = rw (is, dimension-of-code root path, depth-of-code root path, parts-of-code (c .code-of .good-root) path) (name-passes (c .code-of .good-root) path)
-  ; drawn = rw (is, dimension-of-code root path, depth-of-code root path, parts-of-code (c .code-of .good-root) path)
-      (subst (Drawn (length root) (length path) (nameOf root path)) (sym (c .is)) (closed-form root path (c .code-of .good-root) (c .code-of .good-path .depth))) }
+coded {code} {vs} c = record {
+  cell = c;
+  dimension = rw (is, dimension-of-code root path) (c .code-of .good-root .dimension);
+  deep = rw (is, dimension-of-code root path, depth-of-code root path) (c .code-of .good-path .depth);
+  passes = rw (is, dimension-of-code root path, depth-of-code root path, parts-of-code (c .code-of .good-root) path) (name-passes (c .code-of .good-root) path);
+  drawn = rw (is, dimension-of-code root path, depth-of-code root path, parts-of-code (c .code-of .good-root) path)
+      (subst (Drawn (length root) (length path) (nameOf root path)) (sym (c .is)) (closed-form root path (c .code-of .good-root) (c .code-of .good-path .depth)));
+}
   where
     root : List ℕ
     root = c .root
+
     path : List ℕ
     path = c .path
+
     is : code ≡ codeOf root path
     is = c .code-of .is
 

@@ -78,27 +78,38 @@ module _ (d D : ℕ) (d0 : 0 < d) (small : d < 128) (m : Name) (p : Passes d D m
       where
         g : Signed d (m .entries)
         g = p .signed
+
         n : Bool
         n = minus (entry m q)
+
         b : ℕ
         b = boxAt (axis (entry m q)) (m .orthants)
+
         b' : ℕ
         b' = boxAt (axis (entry m q)) (m' .orthants)
+
         e : EntryGoes d k mv (m .entries) q
         e = entry-goes (m .entries) (g .size) k1 q l ok
+
         to-in : e .to < d
         to-in = goes-in g small k1 ok q l e
+
         goes : BoxGoes d (suc q) b n b' mv
         goes = unfold m' mv acrossName in box-goes d k m g ok (unfold blocked in free) q l
+
         there : axis (entry m' (e .to)) ≡ axis (entry m q)
         there = unfold m' mv k acrossName in goes-axis g small k1 ok q l e
+
         sign : minus (entry m' (e .to)) ≡ cond (e .turn) (not n) n
         sign = unfold m' mv k acrossName in goes-sign g small k1 ok q l e
+
         there-at : (frame m') .at (axis (entry m q) - 1) ≡ suc (e .to)
         there-at = subst (λ (a : ℕ). (frame m') .at (a - 1) ≡ suc (e .to)) there (frame-at m' signed' (e .to) to-in)
+
         there-near : (frame m') .near (axis (entry m q) - 1) ≡ unit b' (cond (e .turn) (not n) n)
         there-near = subst (λ (a : ℕ). (frame m') .near (a - 1) ≡ unit (boxAt a (m' .orthants)) (cond (e .turn) (not n) n)) there
             (frame-near m' signed' (e .to) to-in ∙ ap (unit (boxAt (axis (entry m' (e .to))) (m' .orthants))) sign)
+
         there-far : (frame m') .far (axis (entry m q) - 1) ≡ unit b' (not (cond (e .turn) (not n) n))
         there-far = subst (λ (a : ℕ). (frame m') .far (a - 1) ≡ unit (boxAt a (m' .orthants)) (not (cond (e .turn) (not n) n))) there
             (frame-far m' signed' (e .to) to-in ∙ ap (λ (t : Bool). unit (boxAt (axis (entry m' (e .to))) (m' .orthants)) (not t)) sign)
@@ -120,27 +131,35 @@ module _ (d D : ℕ) (d0 : 0 < d) (small : d < 128) (m : Name) (p : Passes d D m
       where
         h : q < d
         h = omega (arith, kd)
+
         a : ℕ
         a = axis (entry m' q) - 1
+
         al : a < d
         al = omega (arith, signed' .low q h, signed' .high q h)
+
         b : ℕ
         b = boxAt (axis (entry m' q)) (m' .orthants)
+
         n : Bool
         n = minus (entry m' q)
+
         lands' : LandsAt d k mv (frame m) (frame m') a
         lands' = unfold k mv m' in lands a al
+
         even : (frame m') .at a ≡ (apply d k mv ((frame m) .at a) ((frame m) .near a) ((frame m) .far a)) .at → (apply d k mv ((frame m) .at a) ((frame m) .near a) ((frame m) .far a)) .near % 2 ≡ 0
         even e = unfold cross in good' .even a al (rw (← e, frame-at m' signed' q h) l)
 
     pub across-passes : Passes d D (acrossName d D i m)
     unfolding m' mv k
-    across-passes = record
-      { signed = signed'
-      ; boxes = record { count = count ∙ p .boxes .count; fit = λ t l. fit t (omega (arith, p .boxes .count)) }
-      ; own = record { sign = own-sign } }
+    across-passes = record {
+      signed = signed';
+      boxes = record { count = count ∙ p .boxes .count; fit = λ t l. fit t (omega (arith, p .boxes .count)) };
+      own = record { sign = own-sign };
+    }
       where
         count : length (m' .orthants) ≡ length (m .orthants)
         count = unfold m' acrossName in orthants-count d k m (p .signed) (moveOf d D i m)
+
         fit : (t : ℕ) → t < length (m .orthants) → getD (m' .orthants) t 0 < 2 ^ d
         fit = unfold m' acrossName in orthants-fit d k m (p .signed) d0 (λ t l. p .boxes .fit t (omega (arith, p .boxes .count))) (moveOf d D i m)

@@ -41,17 +41,32 @@ parts a o = go (ℕ-discrete (q % 2) 1)
   where
     P : ℕ
     P = 2 ^ (a - 1)
+
     q : ℕ
     q = o / P
+
     whole : (t : Bool) → 2 * (q / 2) + digit t ≡ q → o ≡ (2 * (q / 2) + digit t) * P + o % P
     whole t e = sym (split o (a - 1)) ∙ ap (λ (x : ℕ). x * P + o % P) (sym e)
+
     go : Dec (q % 2 ≡ 1) → Parts a o
-    go (yes e) = let w : o ≡ (2 * (q / 2) + 1) * P + o % P = whole true (omega arith) in record
-      { bit = true; above = q / 2; below = o % P; is = eq-eqb (q % 2) 1 e; low = mod-lt o (pow-pos (a - 1)); byte = w
-      ; flip = rw (eq-eqb (q % 2) 1 e) (take-one P o (q / 2) (o % P) w) }
-    go (no e) = let w : o ≡ (2 * (q / 2) + 0) * P + o % P = whole false (omega arith) in record
-      { bit = false; above = q / 2; below = o % P; is = ne-eqb (q % 2) 1 e; low = mod-lt o (pow-pos (a - 1)); byte = w
-      ; flip = rw (ne-eqb (q % 2) 1 e) (add-one P o (q / 2) (o % P) w) }
+    go (yes e) = let w : o ≡ (2 * (q / 2) + 1) * P + o % P = whole true (omega arith) in record {
+      bit = true;
+      above = q / 2;
+      below = o % P;
+      is = eq-eqb (q % 2) 1 e;
+      low = mod-lt o (pow-pos (a - 1));
+      byte = w;
+      flip = rw (eq-eqb (q % 2) 1 e) (take-one P o (q / 2) (o % P) w);
+    }
+    go (no e) = let w : o ≡ (2 * (q / 2) + 0) * P + o % P = whole false (omega arith) in record {
+      bit = false;
+      above = q / 2;
+      below = o % P;
+      is = ne-eqb (q % 2) 1 e;
+      low = mod-lt o (pow-pos (a - 1));
+      byte = w;
+      flip = rw (ne-eqb (q % 2) 1 e) (add-one P o (q / 2) (o % P) w);
+    }
 
 -- the bits of a byte (2 u + t) 2^i + r: the bit at i, the bits below it, the bits above it
 bit-at : (u i r : ℕ) (t : Bool) → r < 2 ^ i → eqb (((2 * u + digit t) * 2 ^ i + r) / 2 ^ i % 2) 1 ≡ t
@@ -83,18 +98,23 @@ module _ (a o : ℕ) where
     where
       i : ℕ
       i = a - 1
+
       r : ℕ
       r = p .below
+
       hi : Bool → ℕ
       hi t = 2 * p .above + digit t
+
       go : Dec (b - 1 < i) → eqb ((hi (not (p .bit)) * 2 ^ i + r) / 2 ^ (b - 1) % 2) 1 ≡ eqb ((hi (p .bit) * 2 ^ i + r) / 2 ^ (b - 1) % 2) 1
       go (yes l) = ap (λ (x : ℕ). eqb x 1) (low-bit (hi (not (p .bit))) i r (b - 1) l ∙ sym (low-bit (hi (p .bit)) i r (b - 1) l))
       go (no l) = ap (λ (x : ℕ). eqb (x % 2) 1) (over (not (p .bit)) ∙ sym (over (p .bit)))
         where
           e : ℕ
           e = b - suc a
+
           up : i + suc e ≡ b - 1
           up = omega arith
+
           over : (t : Bool) → (hi t * 2 ^ i + r) / 2 ^ (b - 1) ≡ p .above / 2 ^ e
           over t = subst (λ (x : ℕ). (hi t * 2 ^ i + r) / 2 ^ x ≡ p .above / 2 ^ e) up (bit-over (p .above) i r e t (p .low))
 
@@ -105,18 +125,25 @@ module _ (a o : ℕ) where
     where
       P : ℕ
       P = 2 ^ (a - 1)
+
       E : ℕ
       E = 2 ^ (d - a)
+
       sum : suc (d - a) + (a - 1) ≡ d
       sum = omega arith
+
       whole : 2 ^ d ≡ 2 * E * P
       whole = ap (λ (x : ℕ). 2 ^ x) (sym sum) ∙ pow-add 2 (suc (d - a)) (a - 1) ∙ ap (λ (x : ℕ). x * P) (omega arith)
+
       top : 2 * p .above + digit (p .bit) ≡ o / P
       top = sym (high-part (2 * p .above + digit (p .bit)) (a - 1) (p .low)) ∙ ap (λ (x : ℕ). x / P) (sym (p .byte))
+
       less : o / P < 2 * E
       less = subst (λ (x : ℕ). o / P < x) (omega arith) (shr-lt (suc (d - a)) (a - 1) (subst (λ (x : ℕ). o < 2 ^ x) (sym sum) h))
+
       few : p .above < E
       few = omega (arith, top, less)
+
       under : (u : ℕ) (t : Bool) (E P r : ℕ) → u < E → r < P → (2 * u + digit t) * P + r < 2 * E * P
       under u true E P r l q = omega (arith, mul-le-mul-right {m = 2 * u + 2} {n = 2 * E} P (omega arith))
       under u false E P r l q = omega (arith, mul-le-mul-right {m = 2 * u + 2} {n = 2 * E} P (omega arith))

@@ -68,8 +68,12 @@ module _ {d k : ℕ} {c : Frame} (g : GoodFrame d k c) (j : ℕ) where
 
   rank-low : j ≤ k → k ≤ d → sum (λ a. vert k c j a / 2 % 2) d ≡ rank d k c + j
   unfolding rank
-  rank-low h kd = omega (arith, count (g .perm) j (omega arith), sum-plus (λ a. vert k c j a / 2 % 2) (λ a. vert k c 0 a / 2 % 2) (λ a. upTo j (c .at a)) d
-      (λ a la. rank-one (g .sides a la) k (c .at a) j (g .perm .first a la) (g .even a la) h))
+  rank-low h kd = omega (
+    arith,
+    count (g .perm) j (omega arith),
+    sum-plus (λ a. vert k c j a / 2 % 2) (λ a. vert k c 0 a / 2 % 2) (λ a. upTo j (c .at a)) d
+        (λ a la. rank-one (g .sides a la) k (c .at a) j (g .perm .first a la) (g .even a la) h),
+  )
 
 module _ {d k : ℕ} {c c' : Frame} (g : GoodFrame d k c) (g' : GoodFrame d k c') (kd : k ≤ d) (j j' : ℕ) (l' : j' ≤ d) (m : Meets d k c j c' j') where
   halves : sum (λ a. vert k c j a % 2) d ≡ sum (λ a. vert k c' j' a % 2) d

@@ -124,10 +124,13 @@ module _ {d k : ℕ} {c c' : Frame} (g : GoodFrame d k c) (g' : GoodFrame d k c'
     where
       b : ℕ
       b = c .axis (suc k)
+
       bd : b < d
       bd = g .perm .axis (suc k) (omega arith) kd
+
       bk : c .at b ≡ suc k
       bk = g .perm .back (suc k) (omega arith) kd
+
       go : Lands (record { at = k; near = c .near b; far = c .far b }) (c' .at b) (c' .near b) (c' .far b) → c .near b % 2 ≡ 0
       go w = rw (w .near) at (g' .even b bd (omega (arith, w .at)))
 
@@ -148,12 +151,16 @@ module _ {d k : ℕ} {c c' : Frame} (g : GoodFrame d k c) (g' : GoodFrame d k c'
       where
         a0 : ℕ
         a0 = c .axis d
+
         l0 : a0 < d
         l0 = g .perm .axis d d1 (omega arith)
+
         p0 : c .at a0 ≡ d
         p0 = g .perm .back d d1 (omega arith)
+
         rest : (a : ℕ) → a < d → c .at a ≢ d → SameAt c c' a × LandsAt d k farther c c' a
         rest a l n = (record { at = atD a l; near = nearD a l; far = farD a l n }, simp applies (record { at = atD a l; near = nearD a l; far = farD a l n }))
+
         go : Dec (c' .far a0 ≡ c .far a0) → SameAt c c' a0 ⊎ LandsAt d k farther c c' a0
         go (yes q) = inl (record { at = atD a0 l0; near = nearD a0 l0; far = q })
         go (no q) = inr (simp (applies, p0) (record { at = atD a0 l0 ∙ p0; near = nearD a0 l0; far = omega (arith, nearD a0 l0, g .sides a0 l0, g' .sides a0 l0) }))
@@ -183,10 +190,13 @@ module _ {d k : ℕ} {c c' : Frame} (g : GoodFrame d k c) (g' : GoodFrame d k c'
     where
       b : ℕ
       b = c .axis (suc k)
+
       bd : b < d
       bd = g .perm .axis (suc k) (omega arith) kd
+
       bk : c .at b ≡ suc k
       bk = g .perm .back (suc k) (omega arith) kd
+
       go : Lands (record { at = 1; near = c .far b; far = c .near b }) (c' .at b) (c' .near b) (c' .far b) → c .near b % 2 ≢ 0
       go w q = omega (arith, sides-odd (g .sides b bd), w .near, g' .even b bd (omega (arith, w .at)))
 
@@ -206,12 +216,16 @@ module _ {d : ℕ} {c c' : Frame} (g : GoodFrame d d c) (g' : GoodFrame d d c') 
     where
       a0 : ℕ
       a0 = c .axis 1
+
       l0 : a0 < d
       l0 = g .perm .axis 1 (omega arith) d1
+
       p0 : c .at a0 ≡ 1
       p0 = g .perm .back 1 (omega arith) d1
+
       rest : (a : ℕ) → a < d → c .at a ≢ 1 → SameAt c c' a × LandsAt d d nearer c c' a
       rest a l n = (record { at = at-of a l; near = near-whole a l n; far = far-whole a l }, simp applies (record { at = at-of a l; near = near-whole a l n; far = far-whole a l }))
+
       go : Dec (c' .near a0 ≡ c .near a0) → SameAt c c' a0 ⊎ LandsAt d d nearer c c' a0
       go (yes q) = inl (record { at = at-of a0 l0; near = q; far = far-whole a0 l0 })
       go (no q) = inr (simp (applies, p0) (record { at = at-of a0 l0 ∙ p0; near = omega (arith, far-whole a0 l0, g .sides a0 l0, g' .sides a0 l0); far = far-whole a0 l0 }))

@@ -42,11 +42,12 @@ place-first (e ∷ es) (suc i) h n = rw (ne-eqb (axis e) (axis (getD es i 0)) (n
 
 -- axes from 0, places from 1
 unfoldable pub frame : Name → Frame
-frame m = record
-  { at = λ a. suc (placeOf (m .entries) (suc a))
-  ; axis = λ t. axis (entry m (t - 1)) - 1
-  ; near = λ a. unit (boxAt (suc a) (m .orthants)) (minusOn (m .entries) (suc a))
-  ; far = λ a. unit (boxAt (suc a) (m .orthants)) (not (minusOn (m .entries) (suc a))) }
+frame m = record {
+  at = λ a. suc (placeOf (m .entries) (suc a));
+  axis = λ t. axis (entry m (t - 1)) - 1;
+  near = λ a. unit (boxAt (suc a) (m .orthants)) (minusOn (m .entries) (suc a));
+  far = λ a. unit (boxAt (suc a) (m .orthants)) (not (minusOn (m .entries) (suc a)));
+}
 
 -- the axis of entry q
 module _ {d : ℕ} (m : Name) (g : Signed d (m .entries)) where
@@ -75,16 +76,18 @@ module _ {d : ℕ} (m : Name) (g : Signed d (m .entries)) where
     where
       t : Stands (m .entries) (suc a) d
       t = stands g (suc a) (omega arith) l
+
       e : axis (entry m (t .place)) - 1 ≡ a
       e = omega (arith, t .is)
 
   pub frame-perm : Perm d ((frame m) .at) ((frame m) .axis)
-  frame-perm = record
-    { first = by-entry (λ a. 1 ≤ (frame m) .at a) (λ q l. rw (frame-at q l) (omega arith))
-    ; last = by-entry (λ a. (frame m) .at a ≤ d) (λ q l. rw (frame-at q l) l)
-    ; axis = λ t h l. rw (axis-at t h) (omega (arith, g .low (t - 1) (omega arith), g .high (t - 1) (omega arith)))
-    ; back = λ t h l. rw (axis-at t h, frame-at (t - 1) (omega arith)) (omega arith)
-    ; again = by-entry (λ a. (frame m) .axis ((frame m) .at a) ≡ a) (λ q l. rw (frame-at q l) (frame-axis q)) }
+  frame-perm = record {
+    first = by-entry (λ a. 1 ≤ (frame m) .at a) (λ q l. rw (frame-at q l) (omega arith));
+    last = by-entry (λ a. (frame m) .at a ≤ d) (λ q l. rw (frame-at q l) l);
+    axis = λ t h l. rw (axis-at t h) (omega (arith, g .low (t - 1) (omega arith), g .high (t - 1) (omega arith)));
+    back = λ t h l. rw (axis-at t h, frame-at (t - 1) (omega arith)) (omega arith);
+    again = by-entry (λ a. (frame m) .axis ((frame m) .at a) ≡ a) (λ q l. rw (frame-at q l) (frame-axis q));
+  }
     where
       axis-at : (t : ℕ) → 1 ≤ t → (frame m) .axis t ≡ axis (entry m (t - 1)) - 1
       axis-at t h = unfold frame in refl
@@ -125,8 +128,10 @@ twice-closed {d} {k} {s} w b n q j l = go (decLe j q) (decLe j k)
   where
     x : ℕ
     x = unit b n
+
     y : ℕ
     y = unit b (not n)
+
     go : Dec (j ≤ q) → Dec (j ≤ k) → 2 * closed (s * b) s n q k j ≡ s * row k (suc q) x y j
     go (yes u) v = rw (closed-near (s * b) s n q k j u, row-before k (suc q) x y j (omega arith)) (twice-near s b n)
     go (no u) (yes v) = let h : q < j = omega arith in rw (closed-far (s * b) s n q k j h v, row-in k (suc q) x y j h v) (twice-near s b (not n))
@@ -135,17 +140,20 @@ twice-closed {d} {k} {s} w b n q j l = go (decLe j q) (decLe j k)
 
 module _ (d D : ℕ) (m : Name) (p : Passes d D m) where
   pub frame-good : GoodFrame d (splitPlace d D) (frame m)
-  frame-good = record
-    { perm = frame-perm m (p .signed)
-    ; sides = λ a l. unfold frame in unit-sides (boxAt (suc a) (m .orthants)) (minusOn (m .entries) (suc a))
-    ; even = by-entry m (p .signed) (λ a. (frame m) .at a ≤ splitPlace d D → (frame m) .near a % 2 ≡ 0)
+  frame-good = record {
+    perm = frame-perm m (p .signed);
+    sides = λ a l. unfold frame in unit-sides (boxAt (suc a) (m .orthants)) (minusOn (m .entries) (suc a));
+    even = by-entry m (p .signed) (λ a. (frame m) .at a ≤ splitPlace d D → (frame m) .near a % 2 ≡ 0)
         (λ q l h. rw (frame-near m (p .signed) q l) (eqb-true (unit (boxAt (axis (entry m q)) (m .orthants)) (minus (entry m q)) % 2) 0
-          (sym (own-even (boxAt (axis (entry m q)) (m .orthants)) (minus (entry m q))) ∙ same-is (minus (entry m q)) (eqb (boxAt (axis (entry m q)) (m .orthants) % 2) 1)
-            (p .own .sign q (rw (frame-at m (p .signed) q l) at h) ∙ own-boxAt (axis (entry m q)) (m .orthants))))) }
+        (sym (own-even (boxAt (axis (entry m q)) (m .orthants)) (minus (entry m q))) ∙ same-is (minus (entry m q)) (eqb (boxAt (axis (entry m q)) (m .orthants) % 2) 1)
+        (p .own .sign q (rw (frame-at m (p .signed) q l) at h) ∙ own-boxAt (axis (entry m q)) (m .orthants)))));
+  }
 
   pub frame-cube : InCube (2 ^ boxDepth d D) d (frame m)
-  frame-cube = record { near = λ a l. unfold frame in unit-in (2 ^ boxDepth d D) (boxAt (suc a) (m .orthants)) (minusOn (m .entries) (suc a)) (fits a)
-    ; far = λ a l. unfold frame in unit-in (2 ^ boxDepth d D) (boxAt (suc a) (m .orthants)) (not (minusOn (m .entries) (suc a))) (fits a) }
+  frame-cube = record {
+    near = λ a l. unfold frame in unit-in (2 ^ boxDepth d D) (boxAt (suc a) (m .orthants)) (minusOn (m .entries) (suc a)) (fits a);
+    far = λ a l. unfold frame in unit-in (2 ^ boxDepth d D) (boxAt (suc a) (m .orthants)) (not (minusOn (m .entries) (suc a))) (fits a);
+  }
     where
       fits : (a : ℕ) → boxAt (suc a) (m .orthants) < 2 ^ boxDepth d D
       fits a = rw (p .boxes .count) at (boxAt-fits (suc a) (m .orthants))
@@ -163,11 +171,15 @@ module _ (d D : ℕ) (m : Name) (p : Passes d D m) where
     where
       k : ℕ
       k = splitPlace d D
+
       s : ℕ
       s = boxSide d D
+
       b : ℕ → ℕ
       b q = boxAt (axis (entry m q)) (m .orthants)
+
       low : (q : ℕ) → boxLow (axis (entry m q)) 0 (m .orthants) ≡ s * b q
       low q = boxLow-boxAt (axis (entry m q)) 0 (m .orthants) (omega (arith, p .boxes .count, box-in d D d0 deep)) ∙ (unfold boxSide in rw (zero-add (length (m .orthants)), p .boxes .count) refl)
+
       one : (j : ℕ) → j ≤ d → (q : ℕ) → q < d → 2 * along vs (axis (entry m q)) j ≡ s * vert k (frame m) j (axis (entry m q) - 1)
       one j l q h = rw (r .reads q h j l, low q, frame-at m (p .signed) q h, frame-near m (p .signed) q h, frame-far m (p .signed) q h) (twice-closed (side-of d D d0 deep) (b q) (minus (entry m q)) q j l)

@@ -97,21 +97,23 @@ opp-opp trade = refl
 
 -- the cell across
 unfoldable pub cross : ℕ → ℕ → Move → Frame → Frame
-cross d k m c = record
-  { at = λ a. (apply d k m (c .at a) (c .near a) (c .far a)) .at
-  ; axis = λ t. c .axis (place d k (opp m) t)
-  ; near = λ a. (apply d k m (c .at a) (c .near a) (c .far a)) .near
-  ; far = λ a. (apply d k m (c .at a) (c .near a) (c .far a)) .far }
+cross d k m c = record {
+  at = λ a. (apply d k m (c .at a) (c .near a) (c .far a)) .at;
+  axis = λ t. c .axis (place d k (opp m) t);
+  near = λ a. (apply d k m (c .at a) (c .near a) (c .far a)) .near;
+  far = λ a. (apply d k m (c .at a) (c .near a) (c .far a)) .far;
+}
 
 module _ {d k : ℕ} {c : Frame} (g : GoodFrame d k c) (k1 : 1 ≤ k) {m : Move} (ok : Allowed d k m) where
   pub cross-perm : Perm d ((cross d k m c) .at) ((cross d k m c) .axis)
   unfolding cross
-  cross-perm = record
-    { first = λ a l. rw (at-place) (place-range k1 (g .perm .first a l) (g .perm .last a l) ok .0)
-    ; last = λ a l. rw (at-place) (place-range k1 (g .perm .first a l) (g .perm .last a l) ok .1)
-    ; axis = λ t h l. g .perm .axis (place d k (opp m) t) (place-range k1 h l (allowed-opp ok) .0) (place-range k1 h l (allowed-opp ok) .1)
-    ; back = λ t h l. back t h l
-    ; again = λ a l. rw (at-place) (ap (c .axis) (place-back k1 (g .perm .first a l) (g .perm .last a l) ok) ∙ g .perm .again a l) }
+  cross-perm = record {
+    first = λ a l. rw (at-place) (place-range k1 (g .perm .first a l) (g .perm .last a l) ok .0);
+    last = λ a l. rw (at-place) (place-range k1 (g .perm .first a l) (g .perm .last a l) ok .1);
+    axis = λ t h l. g .perm .axis (place d k (opp m) t) (place-range k1 h l (allowed-opp ok) .0) (place-range k1 h l (allowed-opp ok) .1);
+    back = λ t h l. back t h l;
+    again = λ a l. rw (at-place) (ap (c .axis) (place-back k1 (g .perm .first a l) (g .perm .last a l) ok) ∙ g .perm .again a l);
+  }
     where
       back : (t : ℕ) → 1 ≤ t → t ≤ d → (apply d k m (c .at (c .axis (place d k (opp m) t))) (c .near (c .axis (place d k (opp m) t))) (c .far (c .axis (place d k (opp m) t)))) .at ≡ t
       back t h l = at-place d k m (c .at (c .axis (place d k (opp m) t))) (c .near (c .axis (place d k (opp m) t))) (c .far (c .axis (place d k (opp m) t)))

@@ -106,6 +106,7 @@ module _ {d k s : ℕ} {vs ws : Cell} {c c' : Frame} (s0 : 0 < s) (r : Scaled d 
     where
       li : i < length vs
       li = omega (arith, r .sized .size)
+
       lj : j < length ws
       lj = omega (arith, r' .sized .size)
 
@@ -119,26 +120,36 @@ module _ {d k s : ℕ} {vs : Cell} {c : Frame} (s0 : 0 < s) (r : Scaled d k s vs
   wall-edge top = inr (omega arith)
 
   pub wall-face : OnWall N d k i c → InFace d (facet i vs)
-  wall-face w = record
-    { a = suc (w .axis); low = omega arith; high = w .real; height = s * w .wall; edge = wall-edge (w .is-wall)
-    ; flat = λ v m. flat v (mem-facet vs i (omega (arith, r .sized .size)) m) }
+  wall-face w = record {
+    a = suc (w .axis);
+    low = omega arith;
+    high = w .real;
+    height = s * w .wall;
+    edge = wall-edge (w .is-wall);
+    flat = λ v m. flat v (mem-facet vs i (omega (arith, r .sized .size)) m);
+  }
     where
       flat : (v : Point) → OtherPlace v i vs → coordinate v (suc (w .axis)) ≡ s * w .wall
       flat v q =
           let t : q .place ≤ d = omega (arith, q .below, r .sized .size) in
           let e : suc (w .axis) - 1 ≡ w .axis = omega arith in
           rw (q .is, e) (eq-of-mul-eq-mul-left 2 (omega arith) (getD (vertex vs (q .place)) (w .axis) 0) (s * w .wall)
-              (r .reads (q .place) (w .axis) t (w .real) ∙ ap (λ (x : ℕ). s * x) (w .flat (q .place) t (q .other)) ∙ omega arith))
+          (r .reads (q .place) (w .axis) t (w .real) ∙ ap (λ (x : ℕ). s * x) (w .flat (q .place) t (q .other)) ∙ omega arith))
 
   pub face-wall : InFace d (facet i vs) → OnWall N d k i c
   face-wall f = go (f .edge)
     where
       at-wall : (x : ℕ) → Wall N x → f .height ≡ s * x → OnWall N d k i c
-      at-wall x w e = record
-        { axis = f .a - 1; real = omega (arith, f .low, f .high); wall = x; is-wall = w
-        ; flat = λ j l n. eq-of-mul-eq-mul-left s s0 (vert k c j (f .a - 1)) (2 * x)
+      at-wall x w e = record {
+        axis = f .a - 1;
+        real = omega (arith, f .low, f .high);
+        wall = x;
+        is-wall = w;
+        flat = λ j l n. eq-of-mul-eq-mul-left s s0 (vert k c j (f .a - 1)) (2 * x)
             (sym (r .reads j (f .a - 1) l (omega (arith, f .low, f .high)))
-            ∙ ap (λ (y : ℕ). 2 * y) (f .flat (vertex vs j) (facet-mem vs i (omega (arith, r .sized .size)) j (omega (arith, r .sized .size)) n) ∙ e) ∙ omega arith) }
+            ∙ ap (λ (y : ℕ). 2 * y) (f .flat (vertex vs j) (facet-mem vs i (omega (arith, r .sized .size)) j (omega (arith, r .sized .size)) n) ∙ e) ∙ omega arith);
+      }
+
       go : (f .height ≡ 0) ⊎ (f .height ≡ cubeSide) → OnWall N d k i c
       go (inl e) = at-wall 0 bottom (omega arith)
       go (inr e) = at-wall N top (omega arith)

@@ -76,10 +76,13 @@ module _ {d k : ℕ} (es : List ℕ) (size : length es ≡ d) (k1 : 1 ≤ k) (q 
     where
       apart : i - 1 ≢ i
       apart = omega arith
+
       lo : i - 1 < length es
       lo = in-list (omega arith)
+
       hi : i < length es
       hi = in-list id
+
       go : Dec (suc q ≡ i) → Dec (q ≡ i) → EntryGoes d k (swap i) es q
       go (yes e) f = record { to = i; turn = false; place-is = simp places; turn-is = refl; entry-is = exchanged-second (i - 1) i es lo hi ∙ at-place es (omega arith) }
       go (no e) (yes f) = let h : suc q ≡ suc i = omega arith in
@@ -117,22 +120,41 @@ module _ {d k : ℕ} (es : List ℕ) (size : length es ≡ d) (k1 : 1 ≤ k) (q 
     where
       es' : List ℕ
       es' = exchanged 0 k es
+
       some : 0 < length es
       some = in-list (omega arith)
+
       room-k : k < length es'
       room-k = rw (exchanged-length 0 k es) (in-list kd)
+
       room-0 : 0 < length (negatedAt k es')
       room-0 = rw (negatedAt-length k es', exchanged-length 0 k es) some
+
       go : Dec (q ≡ 0) → Dec (q ≡ k) → EntryGoes d k trade es q
       go (yes e) f = let h : suc q ≡ 1 = omega arith in
-          record { to = k; turn = true; place-is = simp places; turn-is = rw (eq-eqb (suc q) 1 h) refl
-          ; entry-is = negatedAt-other 0 (negatedAt k es') k (omega arith) ∙ negatedAt-at k es' k refl room-k ∙ ap negated (exchanged-second 0 k es some (in-list kd) ∙ at-place es (sym e)) }
+          record {
+            to = k;
+            turn = true;
+            place-is = simp places;
+            turn-is = rw (eq-eqb (suc q) 1 h) refl;
+            entry-is = negatedAt-other 0 (negatedAt k es') k (omega arith) ∙ negatedAt-at k es' k refl room-k ∙ ap negated (exchanged-second 0 k es some (in-list kd) ∙ at-place es (sym e));
+          }
       go (no e) (yes f) = let h : suc q ≡ suc k = omega arith in let n : suc q ≢ 1 = omega arith in
-          record { to = 0; turn = true; place-is = simp places; turn-is = rw (ne-eqb (suc q) 1 n, eq-eqb (suc q) (suc k) h) refl
-          ; entry-is = negatedAt-at 0 (negatedAt k es') 0 refl room-0 ∙ ap negated (negatedAt-other k es' 0 (omega arith) ∙ exchanged-first 0 k es some (in-list kd) (omega arith) ∙ at-place es (sym f)) }
+          record {
+            to = 0;
+            turn = true;
+            place-is = simp places;
+            turn-is = rw (ne-eqb (suc q) 1 n, eq-eqb (suc q) (suc k) h) refl;
+            entry-is = negatedAt-at 0 (negatedAt k es') 0 refl room-0 ∙ ap negated (negatedAt-other k es' 0 (omega arith) ∙ exchanged-first 0 k es some (in-list kd) (omega arith) ∙ at-place es (sym f));
+          }
       go (no e) (no f) = let h : suc q ≢ suc k = omega arith in let n : suc q ≢ 1 = omega arith in
-          record { to = q; turn = false; place-is = simp places; turn-is = rw (ne-eqb (suc q) 1 n, ne-eqb (suc q) (suc k) h) refl
-          ; entry-is = negatedAt-other 0 (negatedAt k es') q e ∙ negatedAt-other k es' q f ∙ exchanged-other 0 k es some (in-list kd) q e f }
+          record {
+            to = q;
+            turn = false;
+            place-is = simp places;
+            turn-is = rw (ne-eqb (suc q) 1 n, ne-eqb (suc q) (suc k) h) refl;
+            entry-is = negatedAt-other 0 (negatedAt k es') q e ∙ negatedAt-other k es' q f ∙ exchanged-other 0 k es some (in-list kd) q e f;
+          }
 
 pub entries-length : {d k : ℕ} (es : List ℕ) → length es ≡ d → {m : Move} → Allowed d k m → length (entriesBy d k m es) ≡ d
 unfolding entriesBy
@@ -185,6 +207,7 @@ module _ {d k : ℕ} {es : List ℕ} (g : Signed d es) (small : d < 128) (k1 : 1
         where
           e : EntryGoes d k m es (from q)
           e = entry-goes es (g .size) k1 (from q) (from-in q l) ok
+
           to-q : q ≡ e .to
           to-q = omega (arith, e .place-is, place-from q l)
 

@@ -28,10 +28,13 @@ module _ {d k : ℕ} {c c' : Frame} (k1 : 1 ≤ k) (kd : k ≤ d) (g : GoodFrame
         where
           o : Fits d k (c .at a) (c .near a) (c .far a)
           o = fits g a l
+
           o' : Fits d k (c' .at a) (c' .near a) (c' .far a)
           o' = fits g' a l
+
           d1 : 1 ≤ suc d
           d1 = omega arith
+
           agree : (j : ℕ) → j ≤ d → j ≢ suc d → row k (c .at a) (c .near a) (c .far a) j ≡ row k (c' .at a) (c' .near a) (c' .far a) j
           agree j h n = w j h n a l
 
@@ -75,8 +78,11 @@ module _ {d k i : ℕ} {c c' : Frame} (k1 : 1 ≤ k) (kd : k ≤ d) (il : i ≤ 
   has-back : HasFacet d k (newAt d k m) c' c
   has-back u l n =
       let f : Skipped d (newAt d k m) u = skipped (newAt d k m) u (new-within kd (allowed k1 kd il v)) l n in
-      record { place = skip i (f .from); within = skip-in i (f .from) (f .below)
-        ; meets = λ a la. sym (subst (λ (w : ℕ). vert k c (skip i (f .from)) a ≡ vert k c' w a) (f .is) (in-order-meets (f .from) (f .below) a la)) }
+      record {
+        place = skip i (f .from);
+        within = skip-in i (f .from) (f .below);
+        meets = λ a la. sym (subst (λ (w : ℕ). vert k c (skip i (f .from)) a ≡ vert k c' w a) (f .is) (in-order-meets (f .from) (f .below) a la));
+      }
 
   -- the row moves an axis to another place, or to another side
   differs : ((a : ℕ) → a < d → SameAt c' c a) → ⊥
@@ -84,8 +90,10 @@ module _ {d k i : ℕ} {c c' : Frame} (k1 : 1 ≤ k) (kd : k ≤ d) (il : i ≤ 
     where
       place : (t q x y : ℕ) → 1 ≤ t → t ≤ d → Lands (record { at = q; near = x; far = y }) (c' .at (c .axis t)) (c' .near (c .axis t)) (c' .far (c .axis t)) → q ≡ t
       place t q x y h l w = omega (arith, w .at, s (c .axis t) (g .perm .axis t h l) .at, g .perm .back t h l)
+
       on : (m : Move) → ((a : ℕ) → a < d → LandsAt d k m c c' a) → (t : ℕ) → 1 ≤ t → t ≤ d → Lands (apply d k m t (c .near (c .axis t)) (c .far (c .axis t))) (c' .at (c .axis t)) (c' .near (c .axis t)) (c' .far (c .axis t))
       on m w t h l = rw (g .perm .back t h l) at (w (c .axis t) (g .perm .axis t h l))
+
       go : {m : Move} → Allowed d k m → ((a : ℕ) → a < d → LandsAt d k m c c' a) → ⊥
       go (a-swap {i = i} i1 id) h = let l : i ≤ d = omega arith in omega (arith, place i (suc i) (c .near (c .axis i)) (c .far (c .axis i)) i1 l (simp applies at (on (swap i) h i i1 l)))
       go a-far h =

@@ -51,17 +51,19 @@ module _ {d k i : ℕ} {c c' : Frame} (g : GoodFrame d k c) (g' : GoodFrame d k 
     where
       go : Dec (rank d k c < rank d k c') → Dec (rank d k c' < rank d k c) → Dec (i ≡ 0) → Dec (i ≡ k) → Shift d k i c c'
       go (yes a) b (no z) w = absurd (omega (arith, at 0 (omega arith) (omega arith) .2))
-      go (yes a) b (yes z) w = slid-left z (record
-        { corner = λ j l. low (suc j) j (omega arith) (omega arith) (omega (arith, at 1 k1 (omega arith) .2))
-        ; other = λ j h l. high j h l (omega arith) })
+      go (yes a) b (yes z) w = slid-left z (record {
+        corner = λ j l. low (suc j) j (omega arith) (omega arith) (omega (arith, at 1 k1 (omega arith) .2));
+        other = λ j h l. high j h l (omega arith);
+      })
       go (no a) (yes b) z (no w) =
           let q : (t : ℕ) × (t ≤ k) × (rank d k c + k ≡ rank d k c' + t) = at k (omega arith) (omega arith) in
           absurd (omega (arith, q .1, q .2))
       go (no a) (yes b) z (yes w) =
           let q : (t : ℕ) × (t ≤ k) × (rank d k c + (k - 1) ≡ rank d k c' + t) = at (k - 1) (omega arith) (omega arith) in
-          slid-right w (record
-        { corner = λ j l n h. sym (low j (suc j) (omega arith) (omega arith) (omega (arith, q .1, q .2)) n h)
-        ; other = λ j h l n e. sym (high j h l (omega arith) n e) })
+          slid-right w (record {
+            corner = λ j l n h. sym (low j (suc j) (omega arith) (omega arith) (omega (arith, q .1, q .2)) n h);
+            other = λ j h l n e. sym (high j h l (omega arith) n e);
+          })
       go (no a) (no b) z w = level both
         where
           both : (j : ℕ) → j ≤ d → j ≢ i → Meets d k c j c' j

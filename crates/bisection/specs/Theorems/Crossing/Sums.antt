@@ -60,6 +60,7 @@ module _ {d : ℕ} {p q : ℕ → ℕ} (m : Perm d p q) where
     where
       at : ℕ → ℕ
       at a = 1 - ((p a - suc j) + (suc j - p a))
+
       one : sum at d ≡ 1
       one = sum-one at d (q (suc j)) (m .axis (suc j) (omega arith) l) (omega (arith, m .back (suc j) (omega arith) l)) (λ a la o. other a la o)
         where
@@ -69,5 +70,6 @@ module _ {d : ℕ} {p q : ℕ → ℕ} (m : Perm d p q) where
               go : Dec (p a ≡ suc j) → at a ≡ 0
               go (yes e) = absurd (o (at-axis a (suc j) la e))
               go (no e) = omega arith
+
       total : sum (λ a. upTo (suc j) (p a)) d ≡ sum (λ a. upTo j (p a)) d + sum at d
       total = sum-plus (λ a. upTo (suc j) (p a)) (λ a. upTo j (p a)) at d (λ a la. omega arith)

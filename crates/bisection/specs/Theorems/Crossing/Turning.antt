@@ -28,9 +28,11 @@ RolledAt k c c' a = Rolled k (c .at a) (c .near a) (c .far a) (c' .at a) (c' .ne
 module _ {d k : ℕ} {c c' : Frame} (g : GoodFrame d k c) (g' : GoodFrame d k c') (k1 : 1 ≤ k) (kd : k ≤ d) (t : Slid d k c c') where
   th : ℕ
   th = c .axis 1
+
   td : th < d
   unfolding th
   td = g .perm .axis 1 (omega arith) (omega arith)
+
   ti : c .at th ≡ 1
   unfolding th
   ti = g .perm .back 1 (omega arith) (omega arith)
@@ -74,10 +76,13 @@ module _ {d k : ℕ} {c c' : Frame} (g : GoodFrame d k c) (g' : GoodFrame d k c'
     where
       b : ℕ
       b = c .axis (suc k)
+
       bd : b < d
       bd = g .perm .axis (suc k) (omega arith) not-whole
+
       bk : c .at b ≡ suc k
       bk = g .perm .back (suc k) (omega arith) not-whole
+
       go : RolledAt k c c' b → c .near b % 2 ≡ 0
       go (head u v w z) = absurd (omega (arith, bk))
       go (body u v w z y) = rw z at (g' .even b bd (omega (arith, bk)))
@@ -106,10 +111,13 @@ module _ {d k : ℕ} {c c' : Frame} (g : GoodFrame d k c) (g' : GoodFrame d k c'
     where
       b : ℕ
       b = c' .axis (suc k)
+
       bd : b < d
       bd = g' .perm .axis (suc k) (omega arith) not-whole
+
       bk : c' .at b ≡ suc k
       bk = g' .perm .back (suc k) (omega arith) not-whole
+
       go : RolledAt k c c' b → c' .near b % 2 ≢ 0
       go (head u v w z) q = omega (arith, sides-odd (g .sides b bd), g .even b bd (omega arith))
       go (body u v w z y) q = omega (arith, bk)

@@ -37,8 +37,10 @@ module _ {d k i : ℕ} {c c' : Frame} (k1 : 1 ≤ k) (kd : k ≤ d) (il : i ≤ 
           pick (same u) = same u
           pick (crossed u) = absurd (subst T (sym (swap-own g g' k1 (omega arith) u) ∙ r) tt)
       flat w (is-swap e z q) = inside g g' (omega arith) (omega arith) w
+
       by : {m : Move} → move d k i (own k c) ≡ m → Outcome d k m c c' → Outcome d k (move d k i (own k c)) c c'
       by e o = subst (λ (n : Move). Outcome d k n c c') (sym e) o
+
       go : Shift d k i c c' → Outcome d k (move d k i (own k c)) c c'
       go (level w) = flat w (view d k i (own k c))
       go (slid-left e t) = by (ap (move d k i) (left-own g g' k1 kd t) ∙ move-left d k i (omega arith) e (omega (arith, not-whole g g' k1 kd t))) (crossed (lefts g g' k1 kd t))

@@ -48,20 +48,26 @@ module _ {N d k i : ℕ} {c c' : Frame} (k1 : 1 ≤ k) (kd : k ≤ d) (il : i �
     where
       e : ℕ
       e = c .axis d
+
       ed : e < d
       ed = g .perm .axis d (omega arith) (omega arith)
+
       ei : c .at e ≡ d
       ei = g .perm .back d (omega arith) (omega arith)
+
       go : Lands (record { at = d; near = c .near e; far = 2 * c .near e - c .far e }) (c' .at e) (c' .near e) (c' .far e) → ⊥
       go q = past-wall w refl (b .far e ed) (rw (q .far) at (b' .far e ed)) (g .sides e ed) (rw (q .near, q .far) at (g' .sides e ed))
   stuck-not m (start w) h = go (simp (applies, ei) at (h e ed))
     where
       e : ℕ
       e = c .axis 1
+
       ed : e < d
       ed = g .perm .axis 1 (omega arith) (omega arith)
+
       ei : c .at e ≡ 1
       ei = g .perm .back 1 (omega arith) (omega arith)
+
       go : Lands (record { at = 1; near = 2 * c .far e - c .near e; far = c .far e }) (c' .at e) (c' .near e) (c' .far e) → ⊥
       go q = past-wall w refl (b .near e ed) (rw (q .near) at (b' .near e ed)) (sides-turn (g .sides e ed)) (sides-turn (rw (q .near, q .far) at (g' .sides e ed)))
 
@@ -78,30 +84,44 @@ module _ {N d k i : ℕ} {c : Frame} (k1 : 1 ≤ k) (kd : k ≤ d) (il : i ≤ d
   on-wall s = go (view d k i (own k c)) s
     where
       go : {m : Move} → Moved d k i (own k c) m → Stuck N d c m → OnWall N d k i c
-      go (is-far e) (end w) = record
-          { axis = c .axis d; real = g .perm .axis d (omega arith) (omega arith); wall = c .near (c .axis d); is-wall = w
-          ; flat = λ j l n. row-before k (c .at (c .axis d)) (c .near (c .axis d)) (c .far (c .axis d)) j (omega (arith, g .perm .back d (omega arith) (omega arith))) }
-      go (is-near e z q) (start w) = record
-          { axis = c .axis 1; real = g .perm .axis 1 (omega arith) (omega arith); wall = c .far (c .axis 1); is-wall = w
-          ; flat = λ j l n. row-in k (c .at (c .axis 1)) (c .near (c .axis 1)) (c .far (c .axis 1)) j (omega (arith, g .perm .back 1 (omega arith) (omega arith))) (omega arith) }
+      go (is-far e) (end w) = record {
+        axis = c .axis d;
+        real = g .perm .axis d (omega arith) (omega arith);
+        wall = c .near (c .axis d);
+        is-wall = w;
+        flat = λ j l n. row-before k (c .at (c .axis d)) (c .near (c .axis d)) (c .far (c .axis d)) j (omega (arith, g .perm .back d (omega arith) (omega arith)));
+      }
+      go (is-near e z q) (start w) = record {
+        axis = c .axis 1;
+        real = g .perm .axis 1 (omega arith) (omega arith);
+        wall = c .far (c .axis 1);
+        is-wall = w;
+        flat = λ j l n. row-in k (c .at (c .axis 1)) (c .near (c .axis 1)) (c .far (c .axis 1)) j (omega (arith, g .perm .back 1 (omega arith) (omega arith))) (omega arith);
+      }
 
   pub wall-stuck : OnWall N d k i c → Stuck N d c (move d k i (own k c))
   wall-stuck f = go (view d k i (own k c))
     where
       a : ℕ
       a = f .axis
+
       s : Sides (c .near a) (c .far a)
       s = g .sides a (f .real)
+
       -- a facet with vertex 0 has near at the wall, so the axis never leaves it
       first : i ≢ 0 → 2 * c .near a ≡ 2 * f .wall
       first n = sym (row-before k (c .at a) (c .near a) (c .far a) 0 (g .perm .first a (f .real))) ∙ f .flat 0 (omega arith) (omega arith)
+
       never : (j : ℕ) → i ≢ 0 → j ≤ d → j ≢ i → c .at a ≤ j → ⊥
       never j n l h p = row-after s k (c .at a) j p (f .flat j l h ∙ sym (first n))
+
       last : i ≢ 0 → i ≢ d → ⊥
       last n h = never d n (omega arith) (omega arith) (g .perm .last a (f .real))
+
       -- vertex d of a facet without vertex 0 is in the middle where k < d
       middle : i ≡ 0 → k ≢ d → ⊥
       middle z q = omega (arith, sides-odd s, f .flat d (omega arith) (omega arith), row-past k (c .at a) (c .near a) (c .far a) d (g .perm .last a (f .real)) (omega arith))
+
       go : {m : Move} → Moved d k i (own k c) m → Stuck N d c m
       go (is-left e z q r) = absurd (middle z q)
       go (is-trade e z q r) = absurd (middle z q)
@@ -116,17 +136,20 @@ module _ {N d k i : ℕ} {c : Frame} (k1 : 1 ≤ k) (kd : k ≤ d) (il : i ≤ d
               pick : Dec (d ≤ c .at a) → c .at a ≡ d
               pick (yes h) = omega (arith, g .perm .last a (f .real))
               pick (no h) = absurd (never (d - 1) (omega arith) (omega arith) (omega arith) (omega arith))
+
           at-wall : f .wall ≡ c .near (c .axis d)
           at-wall = omega (arith, first (omega arith)) ∙ ap (c .near) (at-axis (g .perm) a d (f .real) at-end)
       go (is-near e z q) = start (subst (Wall N) at-wall (f .is-wall))
         where
           far-is : c .far a ≡ f .wall
           far-is = omega (arith, f .flat d (omega arith) (omega arith), row-in k (c .at a) (c .near a) (c .far a) d (g .perm .last a (f .real)) (omega arith))
+
           at-start : c .at a ≡ 1
           at-start = pick (decLe 2 (c .at a))
             where
               pick : Dec (2 ≤ c .at a) → c .at a ≡ 1
               pick (yes h) = absurd (s .apart (omega (arith, far-is, f .flat 1 (omega arith) (omega arith), row-before k (c .at a) (c .near a) (c .far a) 1 h)))
               pick (no h) = omega (arith, g .perm .first a (f .real))
+
           at-wall : f .wall ≡ c .far (c .axis 1)
           at-wall = sym far-is ∙ ap (c .far) (at-axis (g .perm) a 1 (f .real) at-start)

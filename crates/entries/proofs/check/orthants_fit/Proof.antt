@@ -48,7 +48,7 @@ loop-again c =
     let code = c .before .before .before .before .before .before .args .code .now in
     let d = c .before .before .before .before .before .before .args .d in
     fitting-next (c .before .before .before .loop .inv) (omega (arith, c .before .before .before .before .if1 .left)) _
-        (at-place code (2 + d) (c .before .place-in .result) ∙ ap (λ (x : ℕ). getD (drop (2 + d) code) x 0) (c .before .place-in .ensures))
+    (at-place code (2 + d) (c .before .place-in .result) ∙ ap (λ (x : ℕ). getD (drop (2 + d) code) x 0) (c .before .place-in .ensures))
 
 cast-result : tie.Need-cast-result Inv-loop μ-loop
 cast-result c = omega (arith, c .before .before .before .before .pre .0)

@@ -47,7 +47,7 @@ loop-again c =
     let j = c .before .before .place-in .result in
     let l : j < d = omega (arith, c .before .before .place-in .ensures, place-within (c .before .before .before .before .loop .i) d (c .before .before .before .before .before .before .pre .0)) in
     rw (c .mark-of .ensures) (marked-next (c .before .before .before .before .loop .inv) (c .before .before .before .before .before .before .pre .0) _
-        (entry-at s at d j l ∙ ap (λ (x : ℕ). getD (take d (drop at s)) x 0) (c .before .before .place-in .ensures)))
+    (entry-at s at d j l ∙ ap (λ (x : ℕ). getD (take d (drop at s)) x 0) (c .before .before .place-in .ensures)))
 
 cast-result : tie.Need-cast-result Inv-loop μ-loop
 cast-result c = omega (arith, c .before .before .before .pre .1)

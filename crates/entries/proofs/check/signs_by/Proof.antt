@@ -36,7 +36,7 @@ returns : tie.Need-returns Inv-loop μ-loop
 returns c =
     let code = c .before .before .before .before .before .before .before .args .code .now in
     up-to-fail (drop 2 code) (c .before .before .before .before .before .before .before .args .own) (c .before .before .before .before .before .before .before .args .k) (c .before .before .before .before .before .loop .i) (c .before .before .before .before .before .before .before .pre .0)
-        (ap (signTest (drop 2 code) (c .before .before .before .before .before .before .before .args .own)) (sym (c .before .before .before .place-in .ensures)) ∙ rw (← at-place code 2 (c .before .before .before .place-in .result)) (sym (c .before .same-sign .ensures) ∙ not-true _ (c .if1 .taken)))
+    (ap (signTest (drop 2 code) (c .before .before .before .before .before .before .before .args .own)) (sym (c .before .before .before .place-in .ensures)) ∙ rw (← at-place code 2 (c .before .before .before .place-in .result)) (sym (c .before .same-sign .ensures) ∙ not-true _ (c .if1 .taken)))
 
 add-i : tie.Need-add-i Inv-loop μ-loop
 add-i c = search needs
@@ -48,7 +48,7 @@ loop-again : tie.Need-loop-again Inv-loop μ-loop
 loop-again c =
     let code = c .before .before .before .before .before .before .before .args .code .now in
     up-to-next (c .before .before .before .before .before .loop .inv)
-        (ap (signTest (drop 2 code) (c .before .before .before .before .before .before .before .args .own)) (sym (c .before .before .before .place-in .ensures)) ∙ rw (← at-place code 2 (c .before .before .before .place-in .result)) (sym (c .before .same-sign .ensures) ∙ not-false _ (c .if1 .left)))
+    (ap (signTest (drop 2 code) (c .before .before .before .before .before .before .before .args .own)) (sym (c .before .before .before .place-in .ensures)) ∙ rw (← at-place code 2 (c .before .before .before .place-in .result)) (sym (c .before .same-sign .ensures) ∙ not-false _ (c .if1 .left)))
 
 returns-2 : tie.Need-returns-2 Inv-loop μ-loop
 returns-2 c = up-to-all (c .before .loop .inv) (omega (arith, c .before .before .before .pre .1, c .loop-test .left))

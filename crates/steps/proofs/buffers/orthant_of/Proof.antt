@@ -37,7 +37,7 @@ axis-of-requires : tie.Need-axis-of-requires Inv-loop μ-loop
 axis-of-requires c κs = search needs
 
 raise-requires : tie.Need-raise-requires Inv-loop μ-loop
-raise-requires c κs = 
+raise-requires c κs =
     let j = c .before .before .before .before .place-in .result in
     let l : j < c .before .before .before .before .before .before .before .before .args .d = omega (arith, c .before .before .before .before .place-in .ensures, place-within (c .before .before .before .before .before .before .loop .i) (c .before .before .before .before .before .before .before .before .args .d) (c .before .before .before .before .before .before .before .before .pre .0)) in
     rw (c .axis-of .ensures, entry-at (c .before .before .before .before .before .before .before .before .args .buf .now) (c .before .before .before .before .before .before .before .before .args .at) (c .before .before .before .before .before .before .before .before .args .d) j l) (c .before .before .before .before .before .before .before .before .pre .3 .low j l, omega (arith, c .before .before .before .before .before .before .before .before .pre .3 .high j l, c .before .before .before .before .before .before .before .before .pre .1))
@@ -49,15 +49,15 @@ loop-less : tie.Need-loop-less Inv-loop μ-loop
 loop-less c = omega (arith, c .before .before .before .before .loop-test .taken)
 
 loop-again : tie.Need-loop-again Inv-loop μ-loop
-loop-again c = 
+loop-again c =
     let j = c .before .before .before .place-in .result in
     let l : j < c .before .before .before .before .before .before .before .args .d = omega (arith, c .before .before .before .place-in .ensures, place-within (c .before .before .before .before .before .loop .i) (c .before .before .before .before .before .before .before .args .d) (c .before .before .before .before .before .before .before .pre .0)) in
     let here : c .before .before .before .before .before .loop .i < c .before .before .before .before .before .before .before .args .d → j ≡ c .before .before .before .before .before .loop .i = λ h. c .before .before .before .place-in .ensures ∙ place-under (c .before .before .before .before .before .loop .i) (c .before .before .before .before .before .before .before .args .d) h in
     let e = entry-at (c .before .before .before .before .before .before .before .args .buf .now) (c .before .before .before .before .before .before .before .args .at) (c .before .before .before .before .before .before .before .args .d) j l in
     ⊎-elim
-      (λ w. rw (w .3 ∙ w .2 .ensures ∙ ap (raised (c .before .before .before .before .before .loop .mask)) (w .1 .ensures ∙ ap axis e)) (marking-minus (c .before .before .before .before .before .before .before .pre .3) (c .before .before .before .before .before .loop .inv) j l here (ap minus (sym e) ∙ sym (c .before .is-minus .ensures) ∙ w .0 .taken)))
-      (λ w. rw (w .1) (marking-plus (c .before .before .before .before .before .before .before .pre .3) (c .before .before .before .before .before .loop .inv) j l here (ap minus (sym e) ∙ sym (c .before .is-minus .ensures) ∙ w .0 .left)))
-      (c .if1 .came)
+    (λ w. rw (w .3 ∙ w .2 .ensures ∙ ap (raised (c .before .before .before .before .before .loop .mask)) (w .1 .ensures ∙ ap axis e)) (marking-minus (c .before .before .before .before .before .before .before .pre .3) (c .before .before .before .before .before .loop .inv) j l here (ap minus (sym e) ∙ sym (c .before .is-minus .ensures) ∙ w .0 .taken)))
+    (λ w. rw (w .1) (marking-plus (c .before .before .before .before .before .before .before .pre .3) (c .before .before .before .before .before .loop .inv) j l here (ap minus (sym e) ∙ sym (c .before .is-minus .ensures) ∙ w .0 .left)))
+    (c .if1 .came)
 
 returns : tie.Need-returns Inv-loop μ-loop
 returns c = marking-all (c .before .before .before .pre .3) (c .before .loop .inv) (omega (arith, c .loop-test .left, c .before .before .before .pre .1))
