@@ -4,8 +4,6 @@ pub mod Outcome
 -- The contract determines the answer, and crossing back leads back.
 pub mod Determined
 -- What the proofs of the functions use.
-pub mod Carrying
-pub mod Rearranging
 pub mod Answers
 pub mod Leaving
 pub mod Staying

@@ -21,7 +21,7 @@ use Rattle.bisection.specs.Theorems.Neighbour.{isBlocked, tableCode, tablePlace
 use Rattle.steps.specs.Buffers.{atPlace}
 use Rattle.entries.specs.Walks.{ownByte}
 use Rattle.entries.specs.Passed.{code-few, Checked, checked}
-use Rattle.crossing.specs.Rearranging.{ownNext, Rearranges, within, within-is, Movable}
+use Rattle.moves.specs.Rearranging.{ownNext, Rearranges, within, within-is, Movable}
 use Rattle.crossing.specs.Answers.{entries-append, table-place}
 
 pub record Staying (code : List ℕ) (d k i : ℕ) : Type 0 where

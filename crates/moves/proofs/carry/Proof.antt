@@ -5,10 +5,10 @@ use lib.ListN.{length, length-set}
 use native.Mathlib.Omega.{arith}
 use borrow.Author.Tests.{not-true, not-false}
 use Rattle.bisection.specs.Codes.{axis, minus}
-use Rattle.crossing.specs.Carrying.{Carrying, carrying-none, carrying-next, carrying-stopped, carrying-all}
+use Rattle.moves.specs.Carrying.{Carrying, carrying-none, carrying-next, carrying-stopped, carrying-all}
 use borrow.Author.Needs.{needs}
-use Rattle.crossing.proofs.carry.Statement.{statement}
-use Rattle.crossing.proofs.carry.Tie as tie
+use Rattle.moves.proofs.carry.Statement.{statement}
+use Rattle.moves.proofs.carry.Tie as tie
 
 abbrev Inv-loop : tie.InvT-loop
 Inv-loop buf₀ from n e a t₀ buf t = (from ≤ t) × (t ≤ n) × (length buf ≡ length buf₀) × Carrying n (minus e) (axis e) buf₀ t buf

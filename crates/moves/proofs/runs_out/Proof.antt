@@ -5,10 +5,10 @@ use lib.ListN.{length}
 use native.Mathlib.Omega.{arith}
 use borrow.Author.Tests.{not-true, not-false}
 use Rattle.bisection.specs.Codes.{axis, minus}
-use Rattle.crossing.specs.Carrying.{Running, running-none, running-next, running-stopped, running-all}
+use Rattle.moves.specs.Carrying.{Running, running-none, running-next, running-stopped, running-all}
 use borrow.Author.Needs.{needs}
-use Rattle.crossing.proofs.runs_out.Statement.{statement}
-use Rattle.crossing.proofs.runs_out.Tie as tie
+use Rattle.moves.proofs.runs_out.Statement.{statement}
+use Rattle.moves.proofs.runs_out.Tie as tie
 
 abbrev Inv-loop : tie.InvT-loop
 Inv-loop code from e last₀ last = (from ≤ last) × (last ≤ length code) × Running (minus e) (axis e) code last

@@ -1,9 +1,9 @@
 -- `across_first` meets its contract: the sign of entry k + 1 decides between the two rows of facet 0.
 use mathlib.Core.Path.{sym, _∙_}
-use Rattle.crossing.specs.Rearranging.{first-own, first-against}
+use Rattle.moves.specs.Rearranging.{first-own, first-against}
 use borrow.Author.Needs.{needs}
-use Rattle.crossing.proofs.across_first.Statement.{statement}
-use Rattle.crossing.proofs.across_first.Tie as tie
+use Rattle.moves.proofs.across_first.Statement.{statement}
+use Rattle.moves.proofs.across_first.Tie as tie
 
 add-same-sign : tie.Need-add-same-sign
 add-same-sign c = search needs

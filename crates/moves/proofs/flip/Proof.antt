@@ -1,8 +1,8 @@
 -- `flip` meets its contract: the shifted bit fits a byte, and xor flips it alone.
-use Rattle.crossing.specs.Carrying.{flipped-as}
+use Rattle.moves.specs.Carrying.{flipped-as}
 use borrow.Author.Needs.{needs}
-use Rattle.crossing.proofs.flip.Statement.{statement}
-use Rattle.crossing.proofs.flip.Tie as tie
+use Rattle.moves.proofs.flip.Statement.{statement}
+use Rattle.moves.proofs.flip.Tie as tie
 
 sub-result : tie.Need-sub-result
 sub-result c = search needs

@@ -1,8 +1,8 @@
 -- `exchange` meets its contract: two stores among the entries.
-use Rattle.crossing.specs.Rearranging.{exchange-is}
+use Rattle.moves.specs.Rearranging.{exchange-is}
 use borrow.Author.Needs.{needs}
-use Rattle.crossing.proofs.exchange.Statement.{statement}
-use Rattle.crossing.proofs.exchange.Tie as tie
+use Rattle.moves.proofs.exchange.Statement.{statement}
+use Rattle.moves.proofs.exchange.Tie as tie
 
 add-one : tie.Need-add-one
 add-one c = search needs

@@ -1,8 +1,8 @@
 -- `trade_first` meets its contract: two stores of negated entries.
-use Rattle.crossing.specs.Rearranging.{trade-is}
+use Rattle.moves.specs.Rearranging.{trade-is}
 use borrow.Author.Needs.{needs}
-use Rattle.crossing.proofs.trade_first.Statement.{statement}
-use Rattle.crossing.proofs.trade_first.Tie as tie
+use Rattle.moves.proofs.trade_first.Statement.{statement}
+use Rattle.moves.proofs.trade_first.Tie as tie
 
 slice-read-negate : tie.Need-slice-read-negate
 slice-read-negate c = search needs

@@ -1,9 +1,9 @@
 -- `rearrange` meets its contract: facet 0, facet k, and the others.
 use native.Mathlib.Omega.{arith}
-use Rattle.crossing.specs.Rearranging.{at-first, at-same, within-first, within-split, within-other}
+use Rattle.moves.specs.Rearranging.{at-first, at-same, within-first, within-split, within-other}
 use borrow.Author.Needs.{needs}
-use Rattle.crossing.proofs.rearrange.Statement.{statement}
-use Rattle.crossing.proofs.rearrange.Tie as tie
+use Rattle.moves.proofs.rearrange.Statement.{statement}
+use Rattle.moves.proofs.rearrange.Tie as tie
 
 across-first-requires : tie.Need-across-first-requires
 across-first-requires c κs = at-first (c .before .before .before .pre) (c .before .if1 .taken)

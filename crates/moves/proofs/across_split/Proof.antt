@@ -1,9 +1,9 @@
 -- `across_split` meets its contract: the sign of entry k + 1 decides between the two rows of facet k.
 use mathlib.Core.Path.{sym, _∙_}
-use Rattle.crossing.specs.Rearranging.{split-own, split-against}
+use Rattle.moves.specs.Rearranging.{split-own, split-against}
 use borrow.Author.Needs.{needs}
-use Rattle.crossing.proofs.across_split.Statement.{statement}
-use Rattle.crossing.proofs.across_split.Tie as tie
+use Rattle.moves.proofs.across_split.Statement.{statement}
+use Rattle.moves.proofs.across_split.Tie as tie
 
 add-same-sign : tie.Need-add-same-sign
 add-same-sign c = search needs
