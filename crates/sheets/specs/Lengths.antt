@@ -46,11 +46,11 @@ module _ (bs : List ℕ) (e : recordRefusal sheetMark sampleWidth bs ≡ done) w
     code-length : r .length ≡ codeLength (dimensionOf (behindMark sheetMark bs)) (depthOf (behindMark sheetMark bs))
     code-length = rw (first, second) at (head-length is (is .refusal ∙ rw (first, second) head-passes))
 
-    pub lengths-whole : 2 + r .length + 2 * (getD bs 2 0 + 1) ≡ recordLength sheetMark sampleWidth bs
+    pub lengths-whole : 2 + r .length + sampleWidth * (getD bs 2 0 + 1) ≡ recordLength sheetMark sampleWidth bs
     unfolding recordLength bodyLength
     lengths-whole = omega (arith, code-length, first)
 
-    pub lengths-room : 2 + r .length + 2 * (getD bs 2 0 + 1) ≤ length bs
+    pub lengths-room : 2 + r .length + sampleWidth * (getD bs 2 0 + 1) ≤ length bs
     lengths-room = omega (arith, lengths-whole, inside)
       where
         behind : length (behindMark sheetMark bs) ≡ length bs - 2
@@ -59,5 +59,5 @@ module _ (bs : List ℕ) (e : recordRefusal sheetMark sampleWidth bs ≡ done) w
         inside : recordLength sheetMark sampleWidth bs ≤ length bs
         inside = unfold recordLength in omega (arith, p .inside, behind, lengths-four)
 
-    pub lengths-are : (n : ℕ) → n ≡ getD bs 2 0 → LengthsAre bs (record { code = r .length; whole = 2 + r .length + 2 * (n + 1) })
-    lengths-are n q = record { code-is = code-length; whole-is = ap (λ (i : ℕ). 2 + r .length + 2 * (i + 1)) q ∙ lengths-whole }
+    pub lengths-are : (n : ℕ) → n ≡ getD bs 2 0 → LengthsAre bs (record { code = r .length; whole = 2 + r .length + sampleWidth * (n + 1) })
+    lengths-are n q = record { code-is = code-length; whole-is = ap (λ (i : ℕ). 2 + r .length + sampleWidth * (i + 1)) q ∙ lengths-whole }

@@ -113,7 +113,7 @@ module _ (bs : List ℕ) where
           pub body-own : x ≢ 0 → BodyIs bs (record { refusal = x; code = 0; length = 0 })
           body-own n = body-refused x (past-cut ∙ first-stands (inner bs) last (λ q. n (inner-is ∙ q)) ∙ sym inner-is) n
 
-          module _ (z : x ≡ 0) (n : ℕ) (s : n ≡ r .length + 2 * (dimensionOf bs + 1)) where
+          module _ (z : x ≡ 0) (n : ℕ) (s : n ≡ r .length + sampleWidth * (dimensionOf bs + 1)) where
             past-own : unmarkedRefusal sampleWidth bs ≡ last
             past-own = past-cut ∙ first-done (inner bs) last (sym inner-is ∙ z)
 

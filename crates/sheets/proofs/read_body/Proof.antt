@@ -5,6 +5,7 @@ use native.Mathlib.Omega.{arith}
 use lib.ListN.{length, getD, take, drop}
 use lib.ListN.{length-take}
 use Rattle.bisection.specs.Codes.{dimensionOf, depthOf}
+use Rattle.sheets.specs.Sheets.{sampleWidth}
 use Rattle.sheets.specs.StepLaws.{body-head, body-cut, body-ready, body-own, body-samples, body-done, least}
 use borrow.Author.Needs.{needs}
 use Rattle.sheets.proofs.read_body.Statement.{statement}
@@ -55,11 +56,11 @@ add-length-2 c = omega (arith, c .size .ensures, c .before .shared-slice-known4 
 
 returns-4 : tie.Need-returns-4
 unfolding dimensionOf depthOf
-returns-4 c = body-samples (c .before .before .before .before .before .before .before .before .before .before .before .before .before .args .bytes .now) _ (c .before .before .before .before .before .before .before .before .before .code-head .ensures) (c .before .before .before .before .before .before .before .if1 .left) (c .before .before .before .before .before .before .if2 .left) _ (c .before .before .before .before .code-body .ensures) (c .before .before .before .if3 .left) _ (ap (λ (n : ℕ). c .before .before .before .before .before .before .before .before .before .code-head .result .length + 2 * (n + 1)) (c .before .size .ensures)) (c .if4 .taken)
+returns-4 c = body-samples (c .before .before .before .before .before .before .before .before .before .before .before .before .before .args .bytes .now) _ (c .before .before .before .before .before .before .before .before .before .code-head .ensures) (c .before .before .before .before .before .before .before .if1 .left) (c .before .before .before .before .before .before .if2 .left) _ (c .before .before .before .before .code-body .ensures) (c .before .before .before .if3 .left) _ (ap (λ (n : ℕ). c .before .before .before .before .before .before .before .before .before .code-head .result .length + sampleWidth * (n + 1)) (c .before .size .ensures)) (c .if4 .taken)
 
 returns-5 : tie.Need-returns-5
 unfolding dimensionOf depthOf
-returns-5 c = body-done (c .before .before .before .before .before .before .before .before .before .before .before .before .before .args .bytes .now) _ (c .before .before .before .before .before .before .before .before .before .code-head .ensures) (c .before .before .before .before .before .before .before .if1 .left) (c .before .before .before .before .before .before .if2 .left) _ (c .before .before .before .before .code-body .ensures) (c .before .before .before .if3 .left) _ (ap (λ (n : ℕ). c .before .before .before .before .before .before .before .before .before .code-head .result .length + 2 * (n + 1)) (c .before .size .ensures)) (c .if4 .left)
+returns-5 c = body-done (c .before .before .before .before .before .before .before .before .before .before .before .before .before .args .bytes .now) _ (c .before .before .before .before .before .before .before .before .before .code-head .ensures) (c .before .before .before .before .before .before .before .if1 .left) (c .before .before .before .before .before .before .if2 .left) _ (c .before .before .before .before .code-body .ensures) (c .before .before .before .if3 .left) _ (ap (λ (n : ℕ). c .before .before .before .before .before .before .before .before .before .code-head .result .length + sampleWidth * (n + 1)) (c .before .size .ensures)) (c .if4 .left)
 
 pub read-body-spec : {M : Type 1} → statement M
 read-body-spec =
