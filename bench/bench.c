@@ -313,8 +313,25 @@ static void speed_row(uint8_t d, size_t leaves)
            bytes / m.plain_time, 1 / m.ratio);
 }
 
-int main(void)
+/* A good sheet of at most so many bytes, to a file. */
+static int write_sheet(const char *path, uint8_t d, size_t most)
 {
+    size_t leaves = 24;
+    for (sheet_length = 0; sheet_length <= most; leaves += 24)
+        sized_sheet(d, leaves);
+    for (leaves -= 24; sheet_length > most; leaves -= 24)
+        sized_sheet(d, leaves);
+    FILE *file = fopen(path, "wb");
+    if (!file || fwrite(sheet, 1, sheet_length, file) != sheet_length)
+        return 1;
+    return fclose(file);
+}
+
+/* With a path: writes a sheet there. Without: the tables. */
+int main(int count, char **words)
+{
+    if (count == 2)
+        return write_sheet(words[1], 3, 65536);
     static const char *const sheet_names[] = {"sheet_check, a record, dimension 2",
                                               "sheet_check, a record, dimension 3",
                                               "sheet_check, a record, dimension 4"};
