@@ -14,16 +14,16 @@ use dimension::Dim;
 
 // What gives the vertices their coordinates on one axis: the box's low side there and its side, the sign and the
 // place of the axis's entry, and the split place.
-pub struct Line {
-    pub low: u16,
-    pub side: u16,
-    pub minus: bool,
-    pub place: usize,
-    pub split: usize,
+struct Line {
+    low: u16,
+    side: u16,
+    minus: bool,
+    place: usize,
+    split: usize,
 }
 
 // The box's low side on an axis: from the cube on, each orthant byte halves the side, and adds it where it is high.
-pub fn low_side(code: &[u8], dim: Dim, axis: u8) -> u16
+fn low_side(code: &[u8], dim: Dim, axis: u8) -> u16
     requires { ⌜ (1 ≤ axis) × (axis ≤ 8) × (2 + axesOf dim ≤ length (now code)) ⌝ }
     ensures { λ r. ⌜ r ≡ boxLow axis 0 (drop (2 + axesOf dim) (now (code .entry))) ⌝ }
 {
@@ -42,7 +42,7 @@ pub fn low_side(code: &[u8], dim: Dim, axis: u8) -> u16
 }
 
 // The side at which vertex 0 stands: the low side for a plus, the high side for a minus.
-pub fn near_side(low: u16, side: u16, minus: bool) -> u16
+fn near_side(low: u16, side: u16, minus: bool) -> u16
     requires { ⌜ low + side < 2 ^ 16 ⌝ }
     ensures { λ r. ⌜ r ≡ near low side minus ⌝ }
 {
@@ -53,7 +53,7 @@ pub fn near_side(low: u16, side: u16, minus: bool) -> u16
 }
 
 // A step by plus or minus a side.
-pub fn step_of(side: u16, minus: bool) -> i32
+fn step_of(side: u16, minus: bool) -> i32
     ensures { λ r. ⌜ r ≡ signedStep side minus ⌝ }
 {
     let s = side as i32;
@@ -64,7 +64,7 @@ pub fn step_of(side: u16, minus: bool) -> i32
 }
 
 // A coordinate moved by a signed step.
-pub fn moved(x: u16, step: i32) -> u16
+fn moved(x: u16, step: i32) -> u16
     requires { ⌜ MovesTo x step ⌝ }
     ensures { λ r. ⌜ pos r ≡ pos x +ℤ step ⌝ }
 {
@@ -74,7 +74,7 @@ pub fn moved(x: u16, step: i32) -> u16
 
 // The coordinate of vertex j: the near side up to the entry's place, then the far side, one step away, up to the
 // split place, then the middle, half a step away.
-pub fn coordinate(line: Line, j: usize) -> u16
+fn coordinate(line: Line, j: usize) -> u16
     requires { ⌜ Fair line j ⌝ }
     ensures { λ r. ⌜ r ≡ onLine line j ⌝ }
 {
@@ -89,7 +89,7 @@ pub fn coordinate(line: Line, j: usize) -> u16
 }
 
 // Writes coordinate number n of the points: two bytes, the low byte first.
-pub fn put(points: &mut [u8], n: usize, x: u16)
+fn put(points: &mut [u8], n: usize, x: u16)
     requires { ⌜ 2 * n + 1 < length (now points) ⌝ }
     ensures { λ r. ⌜ Put n x (now (points .entry)) (now (points .exit)) ⌝ }
 {
@@ -98,7 +98,7 @@ pub fn put(points: &mut [u8], n: usize, x: u16)
 }
 
 // Writes the coordinates of the vertices 0..d on one axis.
-pub fn column(points: &mut [u8], d: usize, axis: usize, line: Line)
+fn column(points: &mut [u8], d: usize, axis: usize, line: Line)
     requires { ⌜ ColumnReady d axis line (length (now points)) ⌝ }
     ensures { λ r. ⌜ Column d axis (onLine line) (d + 1) (now (points .entry)) (now (points .exit)) ⌝ }
 {
@@ -110,7 +110,7 @@ pub fn column(points: &mut [u8], d: usize, axis: usize, line: Line)
 }
 
 // The line of the entry at place i of a code that passes.
-pub fn line_of(code: &[u8], dim: Dim, i: usize) -> Line
+fn line_of(code: &[u8], dim: Dim, i: usize) -> Line
     requires { ⌜ LineReady (now code) (axesOf dim) i ⌝ }
     ensures { λ r. ⌜ LineOf (now (code .entry)) i r ⌝ }
 {
