@@ -5,22 +5,15 @@ use mathlib.Core.Bool.{Bool, true, false, cond}
 use mathlib.Core.List.{List, [], _∷_, _++_, map}
 use Prim.Native.Nat.{ℕ, zero, suc, _+_, _*_, _^_}
 use lib.Dec.{eqb}
-use lib.ListN.{length}
-use Rattle.dimension.specs.Sizes.{isDimension, halvings, cubeSide, greatestDepth, level, splitPlace, boxDepth, codeLength, rootCount}
-use Rattle.bisection.specs.Cells.{midpoint, child, moved, corners, rootCell, cellBelow, cellOf}
+use Rattle.dimension.specs.Sizes.{isDimension, halvings, greatestDepth, level, splitPlace, boxDepth, codeLength}
 use Rattle.bisection.specs.Roots.{axesFrom, picks, joined, arrangements, roots}
 use Rattle.bisection.specs.Codes.{minus, axis, negated, turned, stepped, high, minusOn, orthantTo, orthant, step, nameBelow, nameOf, bytes, dimensionOf, depthOf, entriesOf, orthantsOf}
-use Rattle.bisection.specs.Refusals.{need, _then_, each, fresh, permutes, orthantsFit, ownMinus, signsOwn, headRefusal, bodyRefusal, codeRefusal}
+use Rattle.bisection.specs.Refusals.{firstRefusal, each, fresh, permutes, orthantsFit, ownMinus, signsOwn, headRefusal, lengthOf, bodyRefusal, codeRefusal}
 
 -- "under the rule here they are (+1,-1), (-1,-1)"
 pub quoted-orthants : (nameOf (1 ∷ 2 ∷ []) (0 ∷ 1 ∷ 0 ∷ 1 ∷ [])) .orthants ≡ 1 ∷ 0 ∷ []
 unfolding nameOf nameBelow step stepped turned negated minus axis orthant orthantTo minusOn level splitPlace
 quoted-orthants = refl
-
--- the cell of P4, by literal bisection
-pub quoted-cell : cellOf (1 ∷ 2 ∷ []) (0 ∷ 1 ∷ 0 ∷ 1 ∷ []) ≡ (2048 ∷ 0 ∷ []) ∷ (3072 ∷ 0 ∷ []) ∷ (3072 ∷ 1024 ∷ []) ∷ []
-unfolding cellOf cellBelow rootCell corners moved child midpoint splitPlace level cubeSide halvings
-quoted-cell = refl
 
 -- all lists of n bytes from a list of bytes
 unfoldable pub words : ℕ → List ℕ → List (List ℕ)
@@ -40,14 +33,10 @@ unfoldable pub passed : ℕ → ℕ → ℕ
 passed d D = passing d D (candidates d (boxDepth d D))
 
 pub counts : (passed 2 0 ≡ 2) × (passed 2 1 ≡ 2 * 2) × (passed 2 2 ≡ 2 * 4) × (passed 2 3 ≡ 2 * 8) × (passed 3 1 ≡ 6 * 2) × (passed 3 2 ≡ 6 * 4)
-unfolding passed candidates passing words joined axesFrom codeRefusal headRefusal bodyRefusal need _then_ each fresh permutes orthantsFit ownMinus signsOwn isDimension halvings greatestDepth level splitPlace boxDepth codeLength minus axis high dimensionOf depthOf entriesOf orthantsOf
+unfolding passed candidates passing words joined axesFrom codeRefusal headRefusal lengthOf bodyRefusal firstRefusal each fresh permutes orthantsFit ownMinus signsOwn isDimension halvings greatestDepth level splitPlace boxDepth codeLength minus axis high dimensionOf depthOf entriesOf orthantsOf
 counts = (refl, refl, refl, refl, refl, refl)
 
 -- the roots in dictionary order
 pub roots-in-order : roots 3 ≡ (1 ∷ 2 ∷ 3 ∷ []) ∷ (1 ∷ 3 ∷ 2 ∷ []) ∷ (2 ∷ 1 ∷ 3 ∷ []) ∷ (2 ∷ 3 ∷ 1 ∷ []) ∷ (3 ∷ 1 ∷ 2 ∷ []) ∷ (3 ∷ 2 ∷ 1 ∷ []) ∷ []
 unfolding roots arrangements joined picks axesFrom
 roots-in-order = refl
-
-pub roots-count : (length (roots 2) ≡ rootCount 2) × (length (roots 3) ≡ rootCount 3) × (length (roots 4) ≡ rootCount 4)
-unfolding roots arrangements joined picks axesFrom rootCount
-roots-count = (refl, refl, refl)

@@ -43,16 +43,18 @@ refusedDeepest = 10
 abbrev pub refusedShort : ℕ
 refusedShort = 11
 
--- the number if the test fails, else done
-unfoldable pub need : Bool → ℕ → ℕ
-need true number = done
-need false number = number
+-- a test with the number that is given where it fails; or the refusal that a part has of its own
+pub data Test : Type 0 where
+  need : Bool → ℕ → Test
+  own : ℕ → Test
 
--- the first refusal of two
-infixr 20 _then_
-unfoldable pub _then_ : ℕ → ℕ → ℕ
-zero then later = later
-suc number then later = suc number
+-- the first refusal of a list of tests, in its order
+unfoldable pub firstRefusal : List Test → ℕ
+firstRefusal [] = done
+firstRefusal (need true number ∷ later) = firstRefusal later
+firstRefusal (need false number ∷ later) = number
+firstRefusal (own zero ∷ later) = firstRefusal later
+firstRefusal (own (suc number) ∷ later) = suc number
 
 -- a test of every number below n
 unfoldable pub each : ℕ → (ℕ → Bool) → Bool
@@ -91,23 +93,29 @@ sameSign false n = not n
 unfoldable pub signsOwn : ℕ → List ℕ → List ℕ → Bool
 signsOwn k es os = each k (λ i. sameSign (minus (getD es i 0)) (ownMinus os (axis (getD es i 0))))
 
--- the refusals 1 and 2, of the first two bytes
-unfoldable pub headRefusal : ℕ → ℕ → ℕ
-headRefusal d D =
-    need (isDimension d) refusedDimension
-    then need (leb D (greatestDepth d)) refusedDepth
+-- the refusals 1 and 2, of the head at the front of bytes, and the length that the head gives a code
+unfoldable pub headRefusal : List ℕ → ℕ
+headRefusal bs = firstRefusal (
+    need (isDimension (dimensionOf bs)) refusedDimension
+    ∷ need (leb (depthOf bs) (greatestDepth (dimensionOf bs))) refusedDepth
+    ∷ [])
 
--- the refusals 4, 5 and 6, of the entries and orthants
-unfoldable pub bodyRefusal : ℕ → ℕ → List ℕ → List ℕ → ℕ
-bodyRefusal d D es os =
-    need (permutes d es) refusedPermutation
-    then need (orthantsFit d os) refusedOrthant
-    then need (signsOwn (splitPlace d D) es os) refusedSign
+unfoldable pub lengthOf : List ℕ → ℕ
+lengthOf bs = codeLength (dimensionOf bs) (depthOf bs)
+
+-- the refusals 4, 5 and 6, of a code's entries and orthants
+unfoldable pub bodyRefusal : List ℕ → ℕ
+bodyRefusal code = firstRefusal (
+    need (permutes (dimensionOf code) (entriesOf code)) refusedPermutation
+    ∷ need (orthantsFit (dimensionOf code) (orthantsOf code)) refusedOrthant
+    ∷ need (signsOwn (splitPlace (dimensionOf code) (depthOf code)) (entriesOf code) (orthantsOf code)) refusedSign
+    ∷ [])
 
 -- order for a code: 3 (under 2 bytes), 1, 2, 3, 4, 5, 6
 unfoldable pub codeRefusal : List ℕ → ℕ
-codeRefusal code =
+codeRefusal code = firstRefusal (
     need (leb 2 (length code)) refusedLength
-    then headRefusal (dimensionOf code) (depthOf code)
-    then need (eqb (length code) (codeLength (dimensionOf code) (depthOf code))) refusedLength
-    then bodyRefusal (dimensionOf code) (depthOf code) (entriesOf code) (orthantsOf code)
+    ∷ own (headRefusal code)
+    ∷ need (eqb (length code) (lengthOf code)) refusedLength
+    ∷ own (bodyRefusal code)
+    ∷ [])

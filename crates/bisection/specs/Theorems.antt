@@ -1,4 +1,6 @@
 -- What is proved of the definitions.
+-- Tests in their order: which refusal comes first.
+pub mod Ladders
 -- Lists with one element put in another's place, or turned by one.
 pub mod Lists
 -- One axis of a cell: the closed form, and what a step of the bisection makes of it.
@@ -31,5 +33,3 @@ pub mod Table
 pub mod Crossing
 -- The crossing theorem: the cell across a facet is the one of the table, and there is no other.
 pub mod Neighbour
--- P6, P7 and P8 of document 01.
-pub mod Worked

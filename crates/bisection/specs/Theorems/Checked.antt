@@ -12,29 +12,12 @@ use borrow.Author.Tests.{lt-ltb, le-leb, eq-eqb, ne-eqb, leb-true, ltb-true, eqb
 use Rattle.dimension.specs.Sizes.{isDimension, greatestDepth, codeLength, splitPlace, boxDepth}
 use Rattle.dimension.specs.Laws.{Dimension, dimension}
 use Rattle.bisection.specs.Codes.{axis, minus, Name, bytes, dimensionOf, depthOf, entriesOf, orthantsOf, partsOf}
-use Rattle.bisection.specs.Refusals.{done, refusedDimension, refusedDepth, refusedLength, refusedPermutation, refusedOrthant, refusedSign, need, _then_, each, fresh, permutes, orthantsFit, ownMinus, sameSign, signsOwn, headRefusal, bodyRefusal, codeRefusal}
+use Rattle.bisection.specs.Refusals.{done, each, fresh, permutes, orthantsFit, ownMinus, sameSign, signsOwn, headRefusal, lengthOf, bodyRefusal, codeRefusal}
+use Rattle.bisection.specs.Theorems.Ladders.{first-is, all-hold, holds, past, held-at}
 use Rattle.bisection.specs.Theorems.Entries.{Signed}
 use Rattle.bisection.specs.Theorems.Passing.{Own, Boxes, Passes, same-true, same-is}
 
--- tests in a row, and a test of every number below n
-pub then-done : (a b : ℕ) → (a then b) ≡ 0 → (a ≡ 0) × (b ≡ 0)
-unfolding _then_
-then-done zero b e = (refl, e)
-then-done (suc a) b e = absurd (omega arith)
-
-pub done-then : (a b : ℕ) → a ≡ 0 → (a then b) ≡ b
-unfolding _then_
-done-then a b e = rw e refl
-
-pub need-done : (t : Bool) (r : ℕ) → 0 < r → need t r ≡ 0 → t ≡ true
-unfolding need
-need-done true r h e = refl
-need-done false r h e = absurd (omega arith)
-
-pub done-need : (t : Bool) (r : ℕ) → t ≡ true → need t r ≡ 0
-unfolding need
-done-need t r e = rw e refl
-
+-- two tests, and a test of every number below n
 pub both : (s t : Bool) → (s && t) ≡ true → (s ≡ true) × (t ≡ true)
 both true t e = (refl, e)
 both false t e = absurd (subst T (sym e) tt)
@@ -113,23 +96,23 @@ module _ (k : ℕ) (es os : List ℕ) where
   own-signs o = at-each k (λ i. sameSign (minus (getD es i 0)) (ownMinus os (axis (getD es i 0)))) (λ i l. same-is (minus (getD es i 0)) (ownMinus os (axis (getD es i 0))) (o .sign i l))
 
 -- the body's refusals
-module _ (d D : ℕ) (es os : List ℕ) (entries : length es ≡ d) (boxes : length os ≡ boxDepth d D) where
-  pub body-passes : bodyRefusal d D es os ≡ done → Passes d D (record { entries = es; orthants = os })
-  unfolding bodyRefusal
-  body-passes e = record { signed = permutes-signed d es entries (need-done (permutes d es) refusedPermutation (omega arith) (first .0)); boxes = fit-boxes d (boxDepth d D) os boxes (need-done (orthantsFit d os) refusedOrthant (omega arith) (second .0)); own = signs-own (splitPlace d D) es os (need-done (signsOwn (splitPlace d D) es os) refusedSign (omega arith) (second .1)) }
-    where
-      first : (need (permutes d es) refusedPermutation ≡ 0) × ((need (orthantsFit d os) refusedOrthant then need (signsOwn (splitPlace d D) es os) refusedSign) ≡ 0)
-      first = then-done (need (permutes d es) refusedPermutation) (need (orthantsFit d os) refusedOrthant then need (signsOwn (splitPlace d D) es os) refusedSign) e
+module _ (code : List ℕ) (entries : length (entriesOf code) ≡ dimensionOf code) (boxes : length (orthantsOf code) ≡ boxDepth (dimensionOf code) (depthOf code)) where
+  pub body-passes : bodyRefusal code ≡ done → Passes (dimensionOf code) (depthOf code) (partsOf code)
+  unfolding bodyRefusal partsOf
+  body-passes e =
+      let held = held-at _ tt e in
+      record {
+        signed = permutes-signed (dimensionOf code) (entriesOf code) entries (held 0);
+        boxes = fit-boxes (dimensionOf code) (boxDepth (dimensionOf code) (depthOf code)) (orthantsOf code) boxes (held 1);
+        own = signs-own (splitPlace (dimensionOf code) (depthOf code)) (entriesOf code) (orthantsOf code) (held 2);
+      }
 
-      second : (need (orthantsFit d os) refusedOrthant ≡ 0) × (need (signsOwn (splitPlace d D) es os) refusedSign ≡ 0)
-      second = then-done (need (orthantsFit d os) refusedOrthant) (need (signsOwn (splitPlace d D) es os) refusedSign) (first .1)
-
-  pub passes-body : Passes d D (record { entries = es; orthants = os }) → bodyRefusal d D es os ≡ done
-  unfolding bodyRefusal
-  passes-body p =
-      done-then (need (permutes d es) refusedPermutation) (need (orthantsFit d os) refusedOrthant then need (signsOwn (splitPlace d D) es os) refusedSign) (done-need (permutes d es) refusedPermutation (signed-permutes d es (p .signed)))
-      ∙ done-then (need (orthantsFit d os) refusedOrthant) (need (signsOwn (splitPlace d D) es os) refusedSign) (done-need (orthantsFit d os) refusedOrthant (boxes-fit d (boxDepth d D) os boxes (p .boxes)))
-      ∙ done-need (signsOwn (splitPlace d D) es os) refusedSign (own-signs (splitPlace d D) es os (p .own))
+  pub passes-body : Passes (dimensionOf code) (depthOf code) (partsOf code) → bodyRefusal code ≡ done
+  unfolding bodyRefusal partsOf
+  passes-body p = first-is (
+      holds (signed-permutes (dimensionOf code) (entriesOf code) (p .signed))
+      (holds (boxes-fit (dimensionOf code) (boxDepth (dimensionOf code) (depthOf code)) (orthantsOf code) boxes (p .boxes))
+      (holds (own-signs (splitPlace (dimensionOf code) (depthOf code)) (entriesOf code) (orthantsOf code) (p .own)) all-hold)))
 
 -- the bytes of a name, and their parts again
 module _ (d D : ℕ) (m : Name) (entries : length (m .entries) ≡ d) where
@@ -164,32 +147,16 @@ module _ (code : List ℕ) where
   D = depthOf code
 
   pub good : codeRefusal code ≡ done → Good code
-  unfolding codeRefusal headRefusal partsOf entriesOf orthantsOf codeLength d D
-  good e = record { dimension = dim; depth = deep; passes = body-passes d D (entriesOf code) (orthantsOf code) size-e size-o (r3 .1); is = whole }
+  unfolding codeRefusal headRefusal lengthOf partsOf entriesOf orthantsOf codeLength d D
+  good e =
+      let head = held-at _ tt (held-at _ tt e 1) in
+      record { dimension = head 0; depth = leb-true D (greatestDepth d) (head 1); passes = body-passes code size-e size-o (held-at _ tt e 3); is = whole }
     where
-      r1 : (need (leb 2 (length code)) refusedLength ≡ 0) × ((headRefusal d D then need (eqb (length code) (codeLength d D)) refusedLength then bodyRefusal d D (entriesOf code) (orthantsOf code)) ≡ 0)
-      r1 = then-done (need (leb 2 (length code)) refusedLength) (headRefusal d D then need (eqb (length code) (codeLength d D)) refusedLength then bodyRefusal d D (entriesOf code) (orthantsOf code)) e
-
-      r2 : (headRefusal d D ≡ 0) × ((need (eqb (length code) (codeLength d D)) refusedLength then bodyRefusal d D (entriesOf code) (orthantsOf code)) ≡ 0)
-      r2 = then-done (headRefusal d D) (need (eqb (length code) (codeLength d D)) refusedLength then bodyRefusal d D (entriesOf code) (orthantsOf code)) (r1 .1)
-
-      r3 : (need (eqb (length code) (codeLength d D)) refusedLength ≡ 0) × (bodyRefusal d D (entriesOf code) (orthantsOf code) ≡ 0)
-      r3 = then-done (need (eqb (length code) (codeLength d D)) refusedLength) (bodyRefusal d D (entriesOf code) (orthantsOf code)) (r2 .1)
-
-      h : (need (isDimension d) refusedDimension ≡ 0) × (need (leb D (greatestDepth d)) refusedDepth ≡ 0)
-      h = then-done (need (isDimension d) refusedDimension) (need (leb D (greatestDepth d)) refusedDepth) (r2 .0)
-
       two : 2 ≤ length code
-      two = leb-true 2 (length code) (need-done (leb 2 (length code)) refusedLength (omega arith) (r1 .0))
-
-      dim : isDimension d ≡ true
-      dim = need-done (isDimension d) refusedDimension (omega arith) (h .0)
-
-      deep : D ≤ greatestDepth d
-      deep = leb-true D (greatestDepth d) (need-done (leb D (greatestDepth d)) refusedDepth (omega arith) (h .1))
+      two = leb-true 2 (length code) (held-at _ tt e 0)
 
       size : length code ≡ 2 + d + boxDepth d D
-      size = eqb-true (length code) (codeLength d D) (need-done (eqb (length code) (codeLength d D)) refusedLength (omega arith) (r3 .0))
+      size = eqb-true (length code) (codeLength d D) (held-at _ tt e 2)
 
       size-e : length (take d (drop 2 code)) ≡ d
       size-e = simp (length-take, length-drop) (omega (arith, size))
@@ -207,27 +174,23 @@ module _ (code : List ℕ) where
           rest = split code (getD code 0 0) ∙ ap (λ (l : List ℕ). take (getD code 0 0) (drop 2 code) ++ l) (drop-drop (getD code 0 0) 2 code)
 
 -- the bytes of a name that is a cell's pass
-pub bytes-done : (d D : ℕ) (m : Name) → isDimension d ≡ true → D ≤ greatestDepth d → Passes d D m → codeRefusal (bytes d D m) ≡ done
-unfolding codeRefusal headRefusal codeLength bytes dimensionOf depthOf
-bytes-done d D m dim deep p = go
-  where
-    code : List ℕ
-    code = d ∷ D ∷ (m .entries ++ m .orthants)
+module _ (d D : ℕ) (m : Name) (dim : isDimension d ≡ true) (deep : D ≤ greatestDepth d) (p : Passes d D m) where
+  pub bytes-done : codeRefusal (bytes d D m) ≡ done
+  unfolding codeRefusal headRefusal lengthOf codeLength bytes dimensionOf depthOf
+  bytes-done = first-is (
+      holds (le-leb 2 (length code) (omega arith))
+      (past (first-is (holds dim (holds (le-leb D (greatestDepth d) deep) all-hold)))
+      (holds (eq-eqb (length code) (2 + d + boxDepth d D) size)
+      (past body all-hold))))
+    where
+      code : List ℕ
+      code = d ∷ D ∷ (m .entries ++ m .orthants)
 
-    rest : ℕ
-    rest = need (eqb (length code) (codeLength d D)) refusedLength then bodyRefusal d D (entriesOf code) (orthantsOf code)
+      size : length code ≡ 2 + d + boxDepth d D
+      size = simp length-append (omega (arith, p .signed .size, p .boxes .count))
 
-    size : length code ≡ 2 + d + boxDepth d D
-    size = simp length-append (omega (arith, p .signed .size, p .boxes .count))
+      parts : partsOf code ≡ m
+      parts = parts-bytes d D m (p .signed .size)
 
-    parts : record { entries = entriesOf code; orthants = orthantsOf code } ≡ m
-    parts = unfold partsOf in parts-bytes d D m (p .signed .size)
-
-    body : bodyRefusal d D (entriesOf code) (orthantsOf code) ≡ done
-    body = subst (λ (q : Name). bodyRefusal d D (q .entries) (q .orthants) ≡ done) (sym parts) (passes-body d D (m .entries) (m .orthants) (p .signed .size) (p .boxes .count) p)
-
-    go : (need (leb 2 (length code)) refusedLength then headRefusal d D then rest) ≡ done
-    go = done-then (need (leb 2 (length code)) refusedLength) (headRefusal d D then rest) (done-need (leb 2 (length code)) refusedLength (le-leb 2 (length code) (omega arith)))
-        ∙ done-then (headRefusal d D) rest (done-then (need (isDimension d) refusedDimension) (need (leb D (greatestDepth d)) refusedDepth) (done-need (isDimension d) refusedDimension dim) ∙ done-need (leb D (greatestDepth d)) refusedDepth (le-leb D (greatestDepth d) deep))
-        ∙ done-then (need (eqb (length code) (codeLength d D)) refusedLength) (bodyRefusal d D (entriesOf code) (orthantsOf code)) (done-need (eqb (length code) (codeLength d D)) refusedLength (eq-eqb (length code) (codeLength d D) size))
-        ∙ body
+      body : bodyRefusal code ≡ done
+      body = unfold dimensionOf depthOf partsOf in passes-body code (ap (λ (q : Name). length (q .entries)) parts ∙ p .signed .size) (ap (λ (q : Name). length (q .orthants)) parts ∙ p .boxes .count) (subst (Passes d D) (sym parts) p)
