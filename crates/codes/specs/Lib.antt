@@ -1,6 +1,8 @@
 -- The code layer.
 -- What each entry answers: the contracts' relations, to be read beside document 01.
 pub mod Outcomes
+-- A code at the front of bytes, for those who read records; its laws stand below it.
+pub mod Fronts
 -- Two outcomes that a contract allows are equal.
 pub mod Determined
 -- What the proofs of the entries use: the order of refusals, and one law for each way out of an entry.

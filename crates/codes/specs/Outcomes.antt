@@ -1,24 +1,18 @@
 -- What each entry of the code layer answers, for every input: the answer and every lent cell, refusals too.
 -- Document 01, "The code" and "Refusal numbers". `before` and `after` are a lent buffer at entry and at exit.
 use mathlib.Core.Path.{_≡_}
-use mathlib.Core.Bool.{_&&_, cond}
+use mathlib.Core.Bool.{_&&_}
 use mathlib.Core.List.{List, [], _∷_, _++_}
 use mathlib.Core.Logic.{_≢_}
 use Prim.Native.Nat.{ℕ, suc, _+_, _-_}
-use lib.Dec.{leb, ltb, eqb}
+use lib.Dec.{leb, ltb}
 use lib.ListN.{length, drop}
 use Rattle.dimension.specs.Sizes.{isDimension, greatestDepth, codeLength}
 use Rattle.bisection.specs.Cells.{cellOf, cellBytes, cellLength}
 use Rattle.bisection.specs.Codes.{codeOf, IsCodeOf, dimensionOf, depthOf, childCode}
-use Rattle.bisection.specs.Refusals.{done, refusedDimension, refusedDepth, refusedPermutation, refusedStep, refusedRoot, refusedDeepest, refusedShort, need, _then_, headRefusal, codeRefusal, isRoot, isPath}
-use Rattle.codes.specs.declared.Head.{Head}
+use Rattle.bisection.specs.Refusals.{done, refusedDimension, refusedDepth, refusedPermutation, refusedStep, refusedRoot, refusedDeepest, refusedShort, need, _then_, codeRefusal, isRoot, isPath}
 use Rattle.codes.specs.declared.Written.{Written}
 use Rattle.codes.specs.declared.PathWritten.{PathWritten}
-
--- the head of a code: refusal 1 or 2, or the code's length
-pub record HeadIs (dimension depth : ℕ) (r : Head) : Type 0 where
-  pub refusal : r .refusal ≡ headRefusal dimension depth
-  pub length : r .length ≡ cond (eqb (headRefusal dimension depth) done) (codeLength dimension depth) 0
 
 -- what becomes of a lent buffer: refused, nothing changes and the length is 0; done, the answer stands at its front
 -- and the cells past it keep their content

@@ -5,11 +5,10 @@ ghost use mathlib.Core.Path.{_≡_};
 ghost use mathlib.Core.Bool.{Bool, true, false, not, cond};
 ghost use Prim.Native.Nat.{_+_, _-_, _≤_, _<_};
 ghost use lib.ListN.{length, getD, drop};
-ghost use Rattle.dimension.specs.Sizes.{axesOf, codeLength};
-ghost use Rattle.bisection.specs.Codes.{entriesOf, orthantsOf, dimensionOf, depthOf};
-ghost use Rattle.bisection.specs.Refusals.{done, permutes, orthantsFit, signsOwn, headRefusal, bodyRefusal, codeRefusal};
-ghost use Rattle.codes.specs.Heads.{BodyReady};
-ghost use Rattle.codes.specs.Outcomes.{HeadIs, PathToCode, CodeToPath, Vertices, Child, Parent};
+ghost use Rattle.dimension.specs.Sizes.{axesOf};
+ghost use Rattle.bisection.specs.Refusals.{codeRefusal};
+ghost use Rattle.codes.specs.Fronts.{HeadIs, Headed, innerRefusal};
+ghost use Rattle.codes.specs.Outcomes.{PathToCode, CodeToPath, Vertices, Child, Parent};
 use bisection::DONE;
 use bisection::REFUSED_DEEPEST;
 use bisection::REFUSED_DEPTH;
@@ -27,9 +26,10 @@ use entries::check;
 use steps::buffers;
 use steps::walks;
 
-// What the first two bytes of a code say.
+// What the head at the front of bytes says: its refusal, or the dimension and the length of the code that begins with it.
 pub struct Head {
     pub refusal: u8,
+    pub dimension: u8,
     pub length: usize,
 }
 
@@ -48,35 +48,43 @@ pub struct PathWritten {
     pub depth: usize,
 }
 
-// The refusal of a code's first two bytes, or the length that they give the code.
-pub fn code_head(dimension: u8, depth: u8) -> Head
-    ensures { λ r. ⌜ HeadIs dimension depth r ⌝ }
+// A head that is refused.
+fn head_refused(refusal: u8) -> Head
+    ensures { λ r. ⌜ (r .refusal ≡ refusal) × (r .dimension ≡ 0) × (r .length ≡ 0) ⌝ }
 {
+    Head {
+        refusal,
+        dimension: 0,
+        length: 0,
+    }
+}
+
+// The head of the code at the front of bytes.
+pub fn code_head(bytes: &[u8]) -> Head
+    requires { ⌜ 2 ≤ length (now bytes) ⌝ }
+    ensures { λ r. ⌜ HeadIs (now (bytes .entry)) r ⌝ }
+{
+    let dimension = bytes[0];
+    let depth = entries::size(bytes[1]);
     match Dim::of(entries::size(dimension)) {
-        Known::Nothing => Head {
-            refusal: REFUSED_DIMENSION,
-            length: 0,
-        },
-        Known::Dimension(d) => {
-            let deep = entries::size(depth);
-            if d.greatest_depth() < deep {
-                return Head {
-                    refusal: REFUSED_DEPTH,
-                    length: 0,
-                };
+        Known::Nothing => head_refused(REFUSED_DIMENSION),
+        Known::Dimension(dim) => {
+            if dim.greatest_depth() < depth {
+                return head_refused(REFUSED_DEPTH);
             }
             Head {
                 refusal: DONE,
-                length: d.code_length(deep),
+                dimension,
+                length: dim.code_length(depth),
             }
         }
     }
 }
 
-// The refusal 4, 5 or 6 of a code whose head passes and whose length the head gives.
+// The refusal 4, 5 or 6 of a code whose head passes and gives it its length.
 pub fn code_body(code: &[u8]) -> u8
-    requires { ⌜ BodyReady (now code) ⌝ }
-    ensures { λ r. ⌜ r ≡ bodyRefusal (dimensionOf (now (code .entry))) (depthOf (now (code .entry))) (entriesOf (now (code .entry))) (orthantsOf (now (code .entry))) ⌝ }
+    requires { ⌜ Headed (now code) ⌝ }
+    ensures { λ r. ⌜ r ≡ innerRefusal (now (code .entry)) ⌝ }
 {
     let dim = Dim::checked(code[0]);
     let d = dim.axes();
@@ -100,10 +108,9 @@ pub fn code_check(code: &[u8]) -> u8
     if code.len() < 2 {
         return REFUSED_LENGTH;
     }
-    let head = code_head(code[0], code[1]);
-    let refusal = head.refusal;
-    if refusal != DONE {
-        return refusal;
+    let head = code_head(code);
+    if head.refusal != DONE {
+        return head.refusal;
     }
     if code.len() != head.length {
         return REFUSED_LENGTH;

@@ -29,6 +29,11 @@ first-is (stops {x} {later = later} e n) = go x (λ q. n (sym e ∙ q)) ∙ e
     go zero h = absurd (h refl)
     go (suc x) h = refl
 
+-- where all that stands before it holds, the last part's own refusal is the whole one
+pub own-last : (x : ℕ) → First (own x ∷ []) x
+own-last zero = past refl all-hold
+own-last (suc x) = stops {x = suc x} {number = suc x} refl (omega arith)
+
 -- what it means that a test holds, and the test at a place
 abbrev pub Held : Test → Type 0
 Held (need t n) = t ≡ true

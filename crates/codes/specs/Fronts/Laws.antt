@@ -1,0 +1,120 @@
+-- The laws of a code at the front of bytes: how its head and what stands inside make up the code's refusal, and what becomes of
+-- a code that passes where more bytes follow it. The first four open the names for the code layer itself.
+use mathlib.Core.Path.{_≡_, refl, sym, ap, _∙_, subst}
+use mathlib.Core.Bool.{true}
+use mathlib.Core.List.{List, _++_}
+use Prim.Native.Nat.{ℕ, suc, _+_, _≤_, _<_, min}
+use native.Mathlib.Omega.{arith}
+use lib.Dec.{leb, eqb}
+use lib.ListN.{length, getD, take, length-append, length-take, List·getD-append}
+use lib.Seq.{take-at, getD-take}
+use borrow.Author.Tests.{leb-true, le-leb, eqb-true, eq-eqb}
+use Rattle.dimension.specs.Sizes.{isDimension, codeLength}
+use Rattle.bisection.specs.Codes.{codeOf, IsCodeOf, dimensionOf, depthOf}
+use Rattle.bisection.specs.Refusals.{done, headRefusal, lengthOf, bodyRefusal, codeRefusal}
+use Rattle.bisection.specs.Theorems.Ladders.{first-is, holds, past, own-last, held-at}
+use Rattle.bisection.specs.Theorems.CodePaths.{length-root}
+use Rattle.codes.specs.Fronts.{frontRefusal, frontDimension, frontLength, frontCode, innerRefusal, Headed}
+
+pub front-refusal : (bs : List ℕ) → frontRefusal bs ≡ headRefusal bs
+front-refusal bs = refl
+
+pub front-dimension : (bs : List ℕ) → frontDimension bs ≡ dimensionOf bs
+front-dimension bs = refl
+
+pub front-length : (bs : List ℕ) → frontLength bs ≡ codeLength (dimensionOf bs) (depthOf bs)
+unfolding lengthOf
+front-length bs = refl
+
+pub inner-refusal : (code : List ℕ) → innerRefusal code ≡ bodyRefusal code
+inner-refusal code = refl
+
+-- bytes with the same first two have the same head
+module _ (bs cs : List ℕ) (d : dimensionOf bs ≡ dimensionOf cs) (D : depthOf bs ≡ depthOf cs) where
+  same-head : headRefusal bs ≡ headRefusal cs
+  unfolding headRefusal
+  same-head = rw (d, D) refl
+
+  same-length : lengthOf bs ≡ lengthOf cs
+  unfolding lengthOf
+  same-length = rw (d, D) refl
+
+pub front-two : (bs : List ℕ) → 2 ≤ frontLength bs
+unfolding lengthOf codeLength
+front-two bs = omega arith
+
+pub front-known : (bs : List ℕ) → frontRefusal bs ≡ done → isDimension (frontDimension bs) ≡ true
+unfolding headRefusal
+front-known bs e = held-at _ tt e 0
+
+-- the code at the front of bytes has their head
+module _ (bs : List ℕ) where
+  in-dimension : dimensionOf (frontCode bs) ≡ dimensionOf bs
+  unfolding dimensionOf
+  in-dimension = getD-take (frontLength bs) bs 0 0 (omega (arith, front-two bs))
+
+  in-depth : depthOf (frontCode bs) ≡ depthOf bs
+  unfolding depthOf
+  in-depth = getD-take (frontLength bs) bs 1 0 (omega (arith, front-two bs))
+
+  pub front-code-dimension : frontDimension (frontCode bs) ≡ frontDimension bs
+  front-code-dimension = in-dimension
+
+  module _ (room : frontLength bs ≤ length bs) where
+    pub front-code-length : length (frontCode bs) ≡ frontLength bs
+    front-code-length = length-take (frontLength bs) bs ∙ omega arith
+
+    pub front-headed : frontRefusal bs ≡ done → Headed (frontCode bs)
+    front-headed e = record { head = same-head (frontCode bs) bs in-dimension in-depth ∙ e; size = front-code-length ∙ sym (same-length (frontCode bs) bs in-dimension in-depth) }
+
+-- the head passed, what is left of a code's refusal is what stands inside
+pub headed-refusal : (code : List ℕ) → Headed code → codeRefusal code ≡ innerRefusal code
+unfolding codeRefusal
+headed-refusal code h = first-is (
+    holds (le-leb 2 (length code) (omega (arith, h .size, front-two code)))
+    (past (h .head)
+    (holds (eq-eqb (length code) (lengthOf code) (h .size))
+    (own-last (bodyRefusal code)))))
+
+-- a code that passes, and any bytes behind it
+pub record Fronted (code rest : List ℕ) : Type 0 where
+  pub refusal : frontRefusal (code ++ rest) ≡ done
+  pub dimension : frontDimension (code ++ rest) ≡ frontDimension code
+  pub size : frontLength (code ++ rest) ≡ length code
+  pub code-is : frontCode (code ++ rest) ≡ code
+  pub inner : innerRefusal code ≡ done
+
+module _ (code : List ℕ) (e : codeRefusal code ≡ done) where
+  pub code-two : 2 ≤ length code
+  unfolding codeRefusal
+  code-two = leb-true 2 (length code) (held-at _ tt e 0)
+
+  pub code-headed : Headed code
+  unfolding codeRefusal
+  code-headed = record { head = held-at _ tt e 1; size = eqb-true (length code) (lengthOf code) (held-at _ tt e 2) }
+
+  module _ (rest : List ℕ) where
+    along-dimension : dimensionOf (code ++ rest) ≡ dimensionOf code
+    unfolding dimensionOf
+    along-dimension = List·getD-append code rest 0 0 (omega (arith, code-two))
+
+    along-depth : depthOf (code ++ rest) ≡ depthOf code
+    unfolding depthOf
+    along-depth = List·getD-append code rest 0 1 (omega (arith, code-two))
+
+    along-length : frontLength (code ++ rest) ≡ length code
+    along-length = same-length (code ++ rest) code along-dimension along-depth ∙ sym (code-headed .size)
+
+    pub code-fronted : Fronted code rest
+    unfolding codeRefusal
+    code-fronted = record {
+      refusal = same-head (code ++ rest) code along-dimension along-depth ∙ code-headed .head;
+      dimension = along-dimension;
+      size = along-length;
+      code-is = ap (λ (n : ℕ). take n (code ++ rest)) along-length ∙ take-at code rest (length code) refl;
+      inner = held-at _ tt e 3;
+    }
+
+-- the dimension is the number of the root's axes
+pub front-root : {code root path : List ℕ} → IsCodeOf code root path → frontDimension code ≡ length root
+front-root c = sym (length-root c)
