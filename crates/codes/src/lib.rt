@@ -23,7 +23,6 @@ use bisection::REFUSED_STEP;
 use dimension::Dim;
 use dimension::Known;
 use entries::check;
-use steps::buffers;
 use steps::walks;
 
 // What the head at the front of bytes says: its refusal, or the dimension and the length of the code that begins with it.
@@ -65,8 +64,8 @@ pub fn code_head(bytes: &[u8]) -> Head
     ensures { λ r. ⌜ HeadIs (now (bytes .entry)) r ⌝ }
 {
     let dimension = bytes[0];
-    let depth = entries::size(bytes[1]);
-    match Dim::of(entries::size(dimension)) {
+    let depth = common::size(bytes[1]);
+    match Dim::of(common::size(dimension)) {
         Known::Nothing => head_refused(REFUSED_DIMENSION),
         Known::Dimension(dim) => {
             if dim.greatest_depth() < depth {
@@ -94,7 +93,7 @@ pub fn code_body(code: &[u8]) -> u8
     if !check::orthants_fit(code, d) {
         return REFUSED_ORTHANT;
     }
-    let k = dim.split_place(entries::size(code[1]));
+    let k = dim.split_place(common::size(code[1]));
     if !check::signs_by(code, k, check::own_byte(code, d)) {
         return REFUSED_SIGN;
     }
@@ -181,14 +180,14 @@ pub fn code_to_path(code: &[u8], root: &mut [u8], path: &mut [u8]) -> PathWritte
     }
     let dim = Dim::checked(code[0]);
     let axes = dim.axes();
-    let depth = entries::size(code[1]);
+    let depth = common::size(code[1]);
     if root.len() < axes {
         return path_refused(REFUSED_SHORT);
     }
     if path.len() < depth {
         return path_refused(REFUSED_SHORT);
     }
-    buffers::copy(code, 2, axes, root, 0);
+    common::copy(code, 2, axes, root, 0);
     walks::walk_up(code, dim, depth, root, path);
     PathWritten {
         refusal: DONE,
@@ -235,7 +234,7 @@ pub fn child(code: &[u8], which: u8, out: &mut [u8]) -> Written
         return refused(REFUSED_STEP);
     }
     let dim = Dim::checked(code[0]);
-    let depth = entries::size(code[1]);
+    let depth = common::size(code[1]);
     if dim.greatest_depth() <= depth {
         return refused(REFUSED_DEEPEST);
     }
@@ -258,7 +257,7 @@ pub fn parent(code: &[u8], out: &mut [u8]) -> Written
     if refusal != DONE {
         return refused(refusal);
     }
-    let depth = entries::size(code[1]);
+    let depth = common::size(code[1]);
     if depth == 0 {
         return refused(REFUSED_ROOT);
     }

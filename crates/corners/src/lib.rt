@@ -115,7 +115,7 @@ fn line_of(code: &[u8], dim: Dim, i: usize) -> Line
     ensures { λ r. ⌜ LineOf (now (code .entry)) i r ⌝ }
 {
     let e = code[2 + i];
-    let depth = entries::size(code[1]);
+    let depth = common::size(code[1]);
     Line {
         low: low_side(code, dim, entries::axis_of(e)),
         side: dim.box_side(depth),
@@ -134,7 +134,7 @@ pub fn write_cell(code: &[u8], points: &mut [u8])
     let d = dim.axes();
     let mut i: usize = 0;
     while i < d {
-        let axis = entries::size(entries::axis_of(code[2 + i]));
+        let axis = common::size(entries::axis_of(code[2 + i]));
         column(points, d, axis, line_of(code, dim, i));
         i += 1;
     }

@@ -43,7 +43,7 @@ fn cross_inside(code: &[u8], d: usize, k: usize, facet: u8, out: &mut [u8]) -> C
         return refused(REFUSED_SHORT);
     }
     let own = check::own_byte(code, d);
-    let i = entries::size(facet);
+    let i = common::size(facet);
     buffers::copy_front(code, length, out);
     let place = moves::rearrange(out, k, i, own);
     Crossed {
@@ -87,14 +87,14 @@ pub fn cross(code: &[u8], facet: u8, out: &mut [u8]) -> Crossed
     }
     let dim = Dim::checked(code[0]);
     let d = dim.axes();
-    let i = entries::size(facet);
+    let i = common::size(facet);
     if d < i {
         return refused(REFUSED_STEP);
     }
     if i == d {
         return cross_outside(code, d, d - 1, code[1 + d], facet, out);
     }
-    let k = dim.split_place(entries::size(code[1]));
+    let k = dim.split_place(common::size(code[1]));
     if i == 0 {
         if k == d {
             return cross_outside(code, d, 0, entries::negate(code[2]), facet, out);

@@ -10,12 +10,6 @@ ghost use Rattle.bisection.specs.Codes.{axis, minus, negated, high};
 ghost use Rattle.entries.specs.Signs.{signedOf, byteOf};
 ghost use Rattle.entries.specs.Masks.{raised, markOf};
 
-pub fn size(x: u8) -> usize
-    ensures { λ r. ⌜ r ≡ x ⌝ }
-{
-    x as usize
-}
-
 // The axis of an entry.
 pub fn axis_of(e: u8) -> u8
     ensures { λ r. ⌜ r ≡ axis e ⌝ }

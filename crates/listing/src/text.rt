@@ -5,14 +5,13 @@ ghost use Prim.Native.Nat.{_+_, _*_, _≤_, _<_};
 ghost use lib.ListN.{length};
 ghost use Rattle.listing.specs.Texts.{decimal as Texts·decimal, hex as Texts·hex, digit as Texts·digit, leafLine, numberLine};
 ghost use Rattle.listing.specs.Putting.{Puts};
-use steps::buffers;
 
 // Puts bytes.
 pub fn put(out: &mut [u8], at: usize, bytes: &[u8]) -> usize
     requires { ⌜ at + length (now bytes) ≤ length (now out) ⌝ }
     ensures { λ r. ⌜ Puts at (now (bytes .entry)) (now (out .entry)) r (now (out .exit)) ⌝ }
 {
-    buffers::copy(bytes, 0, bytes.len(), out, at);
+    common::copy(bytes, 0, bytes.len(), out, at);
     at + bytes.len()
 }
 

@@ -128,7 +128,7 @@ pub fn position_of(code: &[u8]) -> Position
 {
     let dim = Dim::checked(code[0]);
     let axes = dim.axes();
-    let depth = entries::size(code[1]);
+    let depth = common::size(code[1]);
     let size = power(dim.greatest_depth() - depth);
     let origin = walk(code, dim, depth, four::entries_of(code, axes), size);
     let root = [

@@ -103,7 +103,7 @@ fn read_body(bytes: &[u8]) -> Body
             length: 0,
         };
     }
-    let length = code + SAMPLE_WIDTH * (entries::size(bytes[0]) + 1);
+    let length = code + SAMPLE_WIDTH * (common::size(bytes[0]) + 1);
     if bytes.len() < length {
         return Body {
             refusal: REFUSED_RECORD,
@@ -127,7 +127,7 @@ pub fn record_lengths(bytes: &[u8]) -> Lengths
     let code = codes::code_head(dimension, bytes[MARK_LENGTH + 1]).length;
     Lengths {
         code,
-        whole: MARK_LENGTH + code + SAMPLE_WIDTH * (entries::size(dimension) + 1),
+        whole: MARK_LENGTH + code + SAMPLE_WIDTH * (common::size(dimension) + 1),
     }
 }
 

@@ -1,4 +1,4 @@
--- Entries in a buffer: what a copy, a turn and the way back do to it, place by place, and the orthant of entries.
+-- Entries in a buffer: what a turn and the way back do to it, place by place, and the orthant of entries.
 use mathlib.Core.Path.{_≡_, refl, sym, ap, _∙_, subst}
 use mathlib.Core.Bool.{true, false}
 use mathlib.Core.List.{List, _++_}
@@ -10,7 +10,7 @@ use native.Mathlib.Decide.{decLt, ℕ-discrete}
 use lib.Bits.{or-lt}
 use lib.Pow.{pow-pos, pow-lt}
 use lib.ListN.{length, getD, take, drop, set, length-take, length-drop, length-append, length-set, List·getD-append}
-use lib.Seq.{getD-take, getD-drop, getD-append-add, getD-set-same, getD-set-other, ext-getD, paste, paste-suc}
+use lib.Seq.{getD-take, getD-drop, getD-append-add, getD-set-same, getD-set-other, ext-getD}
 use borrow.Author.Tests.{eq-eqb, ne-eqb}
 use Rattle.bisection.specs.Codes.{axis, minus, negated, turned, high, orthant}
 use Rattle.bisection.specs.Theorems.Entries.{Signed, turned-before, turned-at, turned-past, turned-length, unturned, unturned-moved, unturned-past, unturned-length}
@@ -36,11 +36,6 @@ module _ (at : ℕ) (change : List ℕ → List ℕ) (l : List ℕ) (h : at ≤ 
   pub place-length : length (change (drop at l)) ≡ length (drop at l) → length (atPlace at change l) ≡ length l
   unfolding atPlace
   place-length e = length-append (take at l) (change (drop at l)) ∙ rw (front-length, e, length-drop at l) (omega arith)
-
--- one more byte copied
-pub copied-next : (d : List ℕ) (to from : ℕ) (s : List ℕ) (i : ℕ) → to + i < length d → from + i < length s
-    → set (paste d to (drop from s) i) (to + i) (getD s (from + i) 0) ≡ paste d to (drop from s) (i + 1)
-copied-next d to from s i h l = rw (add-one i, ← getD-drop from s i 0) (paste-suc d to (drop from s) i 0 h (rw (length-drop from s) (omega arith)))
 
 -- a buffer under way from l to f: the places from lo up to hi are f's already
 pub record Filled (l f : List ℕ) (lo hi : ℕ) (buf : List ℕ) : Type 0 where

@@ -2,7 +2,6 @@
 ghost use mathlib.Core.Path.{_≡_};
 ghost use Prim.Native.Nat.{suc, _+_, _≤_, _<_};
 ghost use lib.ListN.{length, getD, take, drop};
-ghost use lib.Seq.{paste};
 ghost use mathlib.Core.List.{_++_};
 ghost use Rattle.dimension.specs.Sizes.{halvings};
 ghost use Rattle.bisection.specs.Codes.{axis, turned, orthant};
@@ -14,18 +13,6 @@ use entries::check;
 
 // Where the last four bytes of the longest code begin.
 const LAST_FOUR: usize = 2 + Dim::MOST_AXES + Dim::HALVINGS - 4;
-
-// Copies n bytes from `from` in src to `to` in dst.
-pub fn copy(src: &[u8], from: usize, n: usize, dst: &mut [u8], to: usize)
-    requires { ⌜ (from + n ≤ length (now src)) × (to + n ≤ length (now dst)) ⌝ }
-    ensures { λ r. ⌜ now (dst .exit) ≡ paste (now (dst .entry)) to (drop from (now (src .entry))) n ⌝ }
-{
-    let mut i: usize = 0;
-    while i < n {
-        dst[to + i] = src[from + i];
-        i += 1;
-    }
-}
 
 // Copies the four bytes from a place on.
 fn copy_four(src: &[u8], at: usize, dst: &mut [u8])

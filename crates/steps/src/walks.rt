@@ -9,7 +9,6 @@ ghost use Rattle.bisection.specs.Theorems.Passing.{Passes};
 ghost use Rattle.steps.specs.Steps.{nameIn};
 ghost use Rattle.steps.specs.Descents.{WalksTo, CodeReady};
 ghost use Rattle.steps.specs.Climbs.{ClimbReady, Climbed};
-use crate::buffers;
 use dimension::Dim;
 
 // Steps the name in the buffer, at depth 0, down the path.
@@ -35,7 +34,7 @@ pub fn write_code(dim: Dim, root: &[u8], path: &[u8], code: &mut [u8])
     let d = dim.axes();
     code[0] = (d % 256) as u8;
     code[1] = (path.len() % 256) as u8;
-    buffers::copy(root, 0, d, code, 2);
+    common::copy(root, 0, d, code, 2);
     walk_down(dim, path, code);
 }
 

@@ -4,10 +4,10 @@ use Prim.Native.Nat.{ℕ, suc, _+_, _-_, _≤_, _<_}
 use lib.ListN.{length, getD, take, drop, length-set, length-drop}
 use native.Mathlib.Omega.{arith}
 use lib.Seq.{paste, paste-zero}
-use Rattle.steps.specs.Buffers.{copied-next}
+use Rattle.common.specs.Copied.{copied-next}
 use borrow.Author.Needs.{needs}
-use Rattle.steps.proofs.buffers.copy.Statement.{statement}
-use Rattle.steps.proofs.buffers.copy.Tie as tie
+use Rattle.common.proofs.copy.Statement.{statement}
+use Rattle.common.proofs.copy.Tie as tie
 
 abbrev Inv-loop : tie.InvT-loop
 Inv-loop src from n dst₀ to i₀ dst i = (i ≤ n) × (length dst ≡ length dst₀) × (dst ≡ paste dst₀ to (drop from src) i)
@@ -37,7 +37,14 @@ loop-less : tie.Need-loop-less Inv-loop μ-loop
 loop-less c = search needs
 
 loop-again : tie.Need-loop-again Inv-loop μ-loop
-loop-again c = (omega arith, simp length-set (c .before .before .loop .inv .1), rw (c .before .before .loop .inv .2) (copied-next (c .before .before .before .args .dst .now) (c .before .before .before .args .to) (c .before .before .before .args .from) (c .before .before .before .args .src .now) (c .before .before .loop .i) (omega arith) (omega arith)))
+loop-again c =
+    let args = c .before .before .before .args in
+    let inv = c .before .before .loop .inv in (
+      omega arith,
+      simp length-set (inv .1),
+      rw (inv .2)
+          (copied-next (args .dst .now) (args .to) (args .from) (args .src .now) (c .before .before .loop .i) (omega arith) (omega arith)),
+    )
 
 same-length : tie.Need-same-length Inv-loop μ-loop
 same-length c = search needs
