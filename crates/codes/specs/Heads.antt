@@ -9,7 +9,7 @@ use lib.Dec.{leb, eqb}
 use lib.ListN.{length, getD, drop}
 use borrow.Author.Tests.{lt-leb, le-leb, ne-eqb, leb-true}
 use Rattle.dimension.specs.Sizes.{isDimension, halvings, greatestDepth, codeLength, boxDepth, splitPlace}
-use Rattle.dimension.specs.Laws.{Dimension, dimension, box-in}
+use Rattle.dimension.specs.Laws.{Dimension, dimension, box-in, split-range}
 use Rattle.bisection.specs.Codes.{axis, dimensionOf, depthOf, entriesOf, orthantsOf}
 use Rattle.bisection.specs.Refusals.{done, refusedDimension, refusedDepth, refusedLength, refusedPermutation, refusedOrthant, refusedSign, fresh, permutes, orthantsFit, signsOwn, headRefusal, lengthOf, bodyRefusal, codeRefusal}
 use Rattle.bisection.specs.Theorems.Checked.{each-at, both}
@@ -68,6 +68,17 @@ module _ {code : List ℕ} (b : Headed code) where
 
   pub ready-few : length code ≤ 2 + dimensionOf code + halvings
   ready-few = omega (arith, size, box-in (dimensionOf code) (depthOf code) (omega (arith, ready-range .two)) ready-depth)
+
+-- the split place as the code has it
+pub record SplitAt (d D n k : ℕ) : Type 0 where
+  pub is : k ≡ splitPlace d D
+  pub low : 1 ≤ k
+  pub high : k ≤ n
+
+pub ready-split : {code : List ℕ} → Headed code → (n : ℕ) → n ≡ dimensionOf code → (k : ℕ) → k ≡ splitPlace (dimensionOf code) (depthOf code) → SplitAt (dimensionOf code) (depthOf code) n k
+ready-split {code} b n e k q =
+    let range = split-range (dimensionOf code) (depthOf code) (omega (arith, ready-range b .two)) in
+    record { is = q; low = omega (arith, range .0); high = omega (arith, range .1) }
 
 -- the body's refusals: n is the dimension and k the split place as the code has them
 module _ (code : List ℕ) (n : ℕ) (e : n ≡ dimensionOf code) where

@@ -47,17 +47,6 @@ pub struct PathWritten {
     pub depth: usize,
 }
 
-// A head that is refused.
-fn head_refused(refusal: u8) -> Head
-    ensures { λ r. ⌜ (r .refusal ≡ refusal) × (r .dimension ≡ 0) × (r .length ≡ 0) ⌝ }
-{
-    Head {
-        refusal,
-        dimension: 0,
-        length: 0,
-    }
-}
-
 // The head of the code at the front of bytes.
 pub fn code_head(bytes: &[u8]) -> Head
     requires { ⌜ 2 ≤ length (now bytes) ⌝ }
@@ -66,10 +55,18 @@ pub fn code_head(bytes: &[u8]) -> Head
     let dimension = bytes[0];
     let depth = common::size(bytes[1]);
     match Dim::of(common::size(dimension)) {
-        Known::Nothing => head_refused(REFUSED_DIMENSION),
+        Known::Nothing => Head {
+            refusal: REFUSED_DIMENSION,
+            dimension: 0,
+            length: 0,
+        },
         Known::Dimension(dim) => {
             if dim.greatest_depth() < depth {
-                return head_refused(REFUSED_DEPTH);
+                return Head {
+                    refusal: REFUSED_DEPTH,
+                    dimension: 0,
+                    length: 0,
+                };
             }
             Head {
                 refusal: DONE,

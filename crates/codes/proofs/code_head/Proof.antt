@@ -6,13 +6,23 @@ use native.Mathlib.Omega.{arith}
 use Rattle.dimension.specs.Sizes.{isDimension, axesOf, codeLength}
 use Rattle.dimension.specs.Known.{KnownIs}
 use Rattle.dimension.specs.Laws.{axes-dimension}
+use Rattle.bisection.specs.Codes.{dimensionOf, depthOf}
 use Rattle.codes.specs.Heads.{head-none, head-deep, head-done}
 use borrow.Author.Needs.{needs}
 use Rattle.codes.proofs.code_head.Statement.{statement}
 use Rattle.codes.proofs.code_head.Tie as tie
 
+shared-slice-read-dimension : tie.Need-shared-slice-read-dimension
+shared-slice-read-dimension c = search needs
+
+shared-slice-read-size : tie.Need-shared-slice-read-size
+shared-slice-read-size c = search needs
+
 size-requires : tie.Need-size-requires
 size-requires c κs = search needs
+
+size-requires-2 : tie.Need-size-requires-2
+size-requires-2 c κs = search needs
 
 of-requires : tie.Need-of-requires
 of-requires c κs = search needs
@@ -20,41 +30,59 @@ of-requires c κs = search needs
 enum-told : tie.Need-enum-told
 enum-told c = search needs
 
-enum-known-d : tie.Need-enum-known-d
-enum-known-d c = search needs
-
-size-requires-2 : tie.Need-size-requires-2
-size-requires-2 c κs = search needs
+enum-known-dim : tie.Need-enum-known-dim
+enum-known-dim c = search needs
 
 greatest-depth-requires : tie.Need-greatest-depth-requires
 greatest-depth-requires c κs = search needs
 
 returns : tie.Need-returns
-returns c = let h = c .before .before .before .before .d .given in
-    let o : axesOf (h .0 .0) ≡ c .before .before .before .before .before .before .before .before .args .dimension = subst (KnownIs _) (h .1) (c .before .before .before .before .before .before .of .ensures) ∙ c .before .before .before .before .before .before .before .size .ensures in
-    head-deep _ _ (rw (← o) (axes-dimension (h .0 .0))) (rw (← o) (omega (arith, c .before .greatest-depth .ensures, c .before .before .size2 .ensures)))
+unfolding dimensionOf depthOf
+returns c =
+    let dim = c .before .before .before .dim in
+    let args = c .before .before .before .before .before .before .before .before .before .before .before .args in
+    let of = c .before .before .before .before .before .of in
+    let size2 = c .before .before .before .before .before .before .size2 in
+    let size = c .before .before .before .before .before .before .before .size in
+    let known = dim .given in
+    let axes : axesOf (known .0 .0) ≡ dimensionOf (args .bytes .now) = subst (KnownIs _) (known .1) (of .ensures) ∙ size2 .ensures in
+    head-deep _ (rw (← axes) (axes-dimension (known .0 .0))) (rw (← axes) (omega (arith, c .before .greatest-depth .ensures, size .ensures)))
 
 code-length-requires : tie.Need-code-length-requires
 code-length-requires c κs = search needs
 
 returns-2 : tie.Need-returns-2
-returns-2 c = let h = c .enum-told .given in
-    head-none _ _ (subst (λ (n : ℕ). isDimension n ≡ false) (c .before .before .before .size .ensures) (subst (KnownIs _) (h .1) (c .before .before .of .ensures)))
+unfolding dimensionOf
+returns-2 c =
+    let size2 = c .before .before .before .size2 in
+    let of = c .before .before .of in
+    let known = c .enum-told .given in
+    head-none _ (subst (λ (n : ℕ). isDimension n ≡ false) (size2 .ensures) (subst (KnownIs _) (known .1) (of .ensures)))
 
 returns-3 : tie.Need-returns-3
-returns-3 c = let h = c .before .before .before .before .before .d .given in
-    let o : axesOf (h .0 .0) ≡ c .before .before .before .before .before .before .before .before .before .args .dimension = subst (KnownIs _) (h .1) (c .before .before .before .before .before .before .before .of .ensures) ∙ c .before .before .before .before .before .before .before .before .size .ensures in
-    head-done _ _ (rw (← o) (axes-dimension (h .0 .0))) (rw (← o) (omega (arith, c .before .before .greatest-depth .ensures, c .before .before .before .size2 .ensures))) _ (rw (← o) (c .code-length .ensures ∙ ap (codeLength (axesOf (h .0 .0))) (c .before .before .before .size2 .ensures)))
+unfolding dimensionOf depthOf
+returns-3 c =
+    let dim = c .before .before .before .before .dim in
+    let args = c .before .before .before .before .before .before .before .before .before .before .before .before .args in
+    let of = c .before .before .before .before .before .before .of in
+    let size2 = c .before .before .before .before .before .before .before .size2 in
+    let greatest-depth = c .before .before .greatest-depth in
+    let size = c .before .before .before .before .before .before .before .before .size in
+    let known = dim .given in
+    let axes : axesOf (known .0 .0) ≡ dimensionOf (args .bytes .now) = subst (KnownIs _) (known .1) (of .ensures) ∙ size2 .ensures in
+    head-done _ (rw (← axes) (axes-dimension (known .0 .0))) (rw (← axes) (omega (arith, greatest-depth .ensures, size .ensures))) _ (rw (← axes) (c .code-length .ensures ∙ ap (codeLength (axesOf (known .0 .0))) (size .ensures)))
 
 pub code-head-spec : {M : Type 1} → statement M
 code-head-spec =
     tie.close
     (tie.spec
+    shared-slice-read-dimension
+    shared-slice-read-size
     size-requires
+    size-requires-2
     of-requires
     enum-told
-    enum-known-d
-    size-requires-2
+    enum-known-dim
     greatest-depth-requires
     returns
     code-length-requires

@@ -17,16 +17,19 @@ use Rattle.bisection.specs.Theorems.CodePaths.{length-root}
 use Rattle.codes.specs.Fronts.{frontRefusal, frontDimension, frontLength, frontCode, innerRefusal, Headed}
 
 pub front-refusal : (bs : List ℕ) → frontRefusal bs ≡ headRefusal bs
+unfolding frontRefusal
 front-refusal bs = refl
 
 pub front-dimension : (bs : List ℕ) → frontDimension bs ≡ dimensionOf bs
+unfolding frontDimension
 front-dimension bs = refl
 
 pub front-length : (bs : List ℕ) → frontLength bs ≡ codeLength (dimensionOf bs) (depthOf bs)
-unfolding lengthOf
+unfolding lengthOf frontLength
 front-length bs = refl
 
 pub inner-refusal : (code : List ℕ) → innerRefusal code ≡ bodyRefusal code
+unfolding innerRefusal
 inner-refusal code = refl
 
 -- bytes with the same first two have the same head
@@ -40,36 +43,39 @@ module _ (bs cs : List ℕ) (d : dimensionOf bs ≡ dimensionOf cs) (D : depthOf
   same-length = rw (d, D) refl
 
 pub front-two : (bs : List ℕ) → 2 ≤ frontLength bs
-unfolding lengthOf codeLength
+unfolding frontLength lengthOf codeLength
 front-two bs = omega arith
 
 pub front-known : (bs : List ℕ) → frontRefusal bs ≡ done → isDimension (frontDimension bs) ≡ true
-unfolding headRefusal
+unfolding frontRefusal frontDimension headRefusal
 front-known bs e = held-at _ tt e 0
 
 -- the code at the front of bytes has their head
 module _ (bs : List ℕ) where
   in-dimension : dimensionOf (frontCode bs) ≡ dimensionOf bs
-  unfolding dimensionOf
+  unfolding frontCode dimensionOf
   in-dimension = getD-take (frontLength bs) bs 0 0 (omega (arith, front-two bs))
 
   in-depth : depthOf (frontCode bs) ≡ depthOf bs
-  unfolding depthOf
+  unfolding frontCode depthOf
   in-depth = getD-take (frontLength bs) bs 1 0 (omega (arith, front-two bs))
 
   pub front-code-dimension : frontDimension (frontCode bs) ≡ frontDimension bs
+  unfolding frontDimension
   front-code-dimension = in-dimension
 
   module _ (room : frontLength bs ≤ length bs) where
     pub front-code-length : length (frontCode bs) ≡ frontLength bs
+    unfolding frontCode
     front-code-length = length-take (frontLength bs) bs ∙ omega arith
 
     pub front-headed : frontRefusal bs ≡ done → Headed (frontCode bs)
+    unfolding frontRefusal frontLength
     front-headed e = record { head = same-head (frontCode bs) bs in-dimension in-depth ∙ e; size = front-code-length ∙ sym (same-length (frontCode bs) bs in-dimension in-depth) }
 
 -- the head passed, what is left of a code's refusal is what stands inside
 pub headed-refusal : (code : List ℕ) → Headed code → codeRefusal code ≡ innerRefusal code
-unfolding codeRefusal
+unfolding codeRefusal frontRefusal frontLength innerRefusal
 headed-refusal code h = first-is (
     holds (le-leb 2 (length code) (omega (arith, h .size, front-two code)))
     (past (h .head)
@@ -90,7 +96,7 @@ module _ (code : List ℕ) (e : codeRefusal code ≡ done) where
   code-two = leb-true 2 (length code) (held-at _ tt e 0)
 
   pub code-headed : Headed code
-  unfolding codeRefusal
+  unfolding codeRefusal frontRefusal frontLength
   code-headed = record { head = held-at _ tt e 1; size = eqb-true (length code) (lengthOf code) (held-at _ tt e 2) }
 
   module _ (rest : List ℕ) where
@@ -103,10 +109,11 @@ module _ (code : List ℕ) (e : codeRefusal code ≡ done) where
     along-depth = List·getD-append code rest 0 1 (omega (arith, code-two))
 
     along-length : frontLength (code ++ rest) ≡ length code
+    unfolding frontLength
     along-length = same-length (code ++ rest) code along-dimension along-depth ∙ sym (code-headed .size)
 
     pub code-fronted : Fronted code rest
-    unfolding codeRefusal
+    unfolding codeRefusal frontRefusal frontDimension frontCode innerRefusal
     code-fronted = record {
       refusal = same-head (code ++ rest) code along-dimension along-depth ∙ code-headed .head;
       dimension = along-dimension;
@@ -117,4 +124,5 @@ module _ (code : List ℕ) (e : codeRefusal code ≡ done) where
 
 -- the dimension is the number of the root's axes
 pub front-root : {code root path : List ℕ} → IsCodeOf code root path → frontDimension code ≡ length root
+unfolding frontDimension
 front-root c = sym (length-root c)
