@@ -23,6 +23,12 @@ pub record GoodPath (d : ℕ) (path : List ℕ) : Type 0 where
   pub steps : (i : ℕ) → i < length path → getD path i 0 ≤ 1
   pub depth : length path ≤ greatestDepth d
 
+-- dictionary order of lists of numbers: by the first place where they differ, a list before those that it begins
+pub data Earlier : List ℕ → List ℕ → Type 0 where
+  inside : {b : ℕ} {q : List ℕ} → Earlier [] (b ∷ q)
+  smaller : {a b : ℕ} {p q : List ℕ} → a < b → Earlier (a ∷ p) (b ∷ q)
+  same-step : {a : ℕ} {p q : List ℕ} → Earlier p q → Earlier (a ∷ p) (a ∷ q)
+
 -- the axes from a on, n of them
 unfoldable pub axesFrom : ℕ → ℕ → List ℕ
 axesFrom a zero = []
@@ -52,6 +58,6 @@ unfoldable pub arrangements : ℕ → List ℕ → List (List ℕ)
 arrangements zero xs = [] ∷ []
 arrangements (suc n) xs = joined (map (λ (p : Pick). map (startingWith (p .first)) (arrangements n (p .rest))) (picks xs))
 
--- all roots of dimension d, in dictionary order
+-- all roots of dimension d, in dictionary order: proved as `roots-rise` in positions/specs/DictionaryOrder.antt
 unfoldable pub roots : ℕ → List (List ℕ)
 roots d = arrangements d (axesFrom 1 d)

@@ -1,10 +1,13 @@
 -- Cells on the line.
 -- The number of a code's root, where its cell starts, how long its part is.
 pub mod Positions
--- What the proofs use: dictionary order over any list, the number of a root in it, and the walk up from a code.
+-- Dictionary order over any list, and the number of a root in it.
 pub mod Arrangements
 pub mod Rising
 pub mod RootNumbers
+-- That the roots stand in dictionary order of their permutations, for every dimension.
+pub mod DictionaryOrder
+-- What the proofs of the walk up from a code use.
 pub mod Fours
 pub mod Walks
 pub mod Places

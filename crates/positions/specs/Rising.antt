@@ -26,7 +26,7 @@ pub picked-over : {a x : ℕ} {xs rest : List ℕ} → Rising a xs → Picked x 
 picked-over (goes-on l r) here = l
 picked-over (goes-on l r) (there p) = omega (arith, picked-over r p)
 
-picked-rising : {a x : ℕ} {xs rest : List ℕ} → Rising a xs → Picked x xs rest → Rising a rest
+pub picked-rising : {a x : ℕ} {xs rest : List ℕ} → Rising a xs → Picked x xs rest → Rising a rest
 picked-rising (goes-on l r) here = rising-from (omega arith) r
 picked-rising (goes-on l r) (there p) = goes-on l (picked-rising r p)
 

@@ -109,7 +109,7 @@ unfolding numberIn
 number-is root = number-rest root (length root) 0 (omega arith) ∙ omega arith
 
 -- the axes from a on: they rise, there are n of them, and they are the numbers from a to below a + n
-axes-rise : (a n : ℕ) → Rising a (axesFrom a n)
+pub axes-rise : (a n : ℕ) → Rising a (axesFrom a n)
 unfolding axesFrom
 axes-rise a zero = ends
 axes-rise a (suc n) = goes-on (le-refl a) (axes-rise (suc a) n)
@@ -134,7 +134,7 @@ axes-under a (suc n) v here = omega arith
 axes-under a (suc n) v (there p) = omega (arith, axes-under (suc a) n v p)
 
 -- the permutations of d axes are their arrangements
-permutation-arranged : (root : List ℕ) → Permutation root → Arranged (axesFrom 1 (length root)) root
+pub permutation-arranged : (root : List ℕ) → Permutation root → Arranged (axesFrom 1 (length root)) root
 permutation-arranged root p = arranged-by root (axesFrom 1 (length root)) (sym (axes-length 1 (length root))) (λ i l. axes-in 1 (length root) (getD root i 0) (p .low i l) (omega (arith, p .high i l))) (p .apart)
 
 arranged-permutation : (d : ℕ) (root : List ℕ) → d ≡ length root → Arranged (axesFrom 1 d) root → Permutation root

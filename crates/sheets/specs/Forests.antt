@@ -2,8 +2,9 @@
 -- The definitions hold for any list of roots; a good sheet has all roots of its dimension in dictionary order.
 use mathlib.Core.Path.{_≡_}
 use mathlib.Core.List.{List, [], _∷_, _++_}
-use Prim.Native.Nat.{ℕ, _≤_, _<_}
+use Prim.Native.Nat.{ℕ, _≤_}
 use lib.ListN.{length}
+use Rattle.bisection.specs.Roots.{Earlier}
 
 -- a cell of the forest: its root, and the path to it
 pub record Cell : Type 0 where
@@ -48,28 +49,15 @@ pub record Leaves (roots : List (List ℕ)) (depth : ℕ) (ls : List Cell) : Typ
   pub within : Within depth ls
 
 -- tree order of any two cells: that of their roots, then dictionary order of their paths, a cell before those inside it
-pub data PathBefore : List ℕ → List ℕ → Type 0 where
-  inside : {b : ℕ} {q : List ℕ} → PathBefore [] (b ∷ q)
-  smaller : {a b : ℕ} {p q : List ℕ} → a < b → PathBefore (a ∷ p) (b ∷ q)
-  same-step : {a : ℕ} {p q : List ℕ} → PathBefore p q → PathBefore (a ∷ p) (a ∷ q)
-
-pub data Among (r : List ℕ) : List (List ℕ) → Type 0 where
-  first : {rs : List (List ℕ)} → Among r (r ∷ rs)
-  behind : {s : List ℕ} {rs : List (List ℕ)} → Among r rs → Among r (s ∷ rs)
-
-pub data RootBefore (r s : List ℕ) : List (List ℕ) → Type 0 where
-  from-here : {rs : List (List ℕ)} → Among s rs → RootBefore r s (r ∷ rs)
-  from-behind : {t : List ℕ} {rs : List (List ℕ)} → RootBefore r s rs → RootBefore r s (t ∷ rs)
-
-pub data Before (roots : List (List ℕ)) (c d : Cell) : Type 0 where
-  by-root : RootBefore (c .root) (d .root) roots → Before roots c d
-  by-path : c .root ≡ d .root → PathBefore (c .path) (d .path) → Before roots c d
+pub data Before (c d : Cell) : Type 0 where
+  by-root : Earlier (c .root) (d .root) → Before c d
+  by-path : c .root ≡ d .root → Earlier (c .path) (d .path) → Before c d
 
 -- each of a list of cells is before all that follow it
-pub data AllBefore (roots : List (List ℕ)) (c : Cell) : List Cell → Type 0 where
-  before-none : AllBefore roots c []
-  before-more : {d : Cell} {ds : List Cell} → Before roots c d → AllBefore roots c ds → AllBefore roots c (d ∷ ds)
+pub data AllBefore (c : Cell) : List Cell → Type 0 where
+  before-none : AllBefore c []
+  before-more : {d : Cell} {ds : List Cell} → Before c d → AllBefore c ds → AllBefore c (d ∷ ds)
 
-pub data InOrder (roots : List (List ℕ)) : List Cell → Type 0 where
-  order-none : InOrder roots []
-  order-more : {c : Cell} {cs : List Cell} → AllBefore roots c cs → InOrder roots cs → InOrder roots (c ∷ cs)
+pub data InOrder : List Cell → Type 0 where
+  order-none : InOrder []
+  order-more : {c : Cell} {cs : List Cell} → AllBefore c cs → InOrder cs → InOrder (c ∷ cs)

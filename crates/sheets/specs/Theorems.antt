@@ -13,6 +13,8 @@ pub mod Listing
 pub mod Determined
 -- The leaves of a good sheet fill the line, with no gap and no overlap.
 pub mod Tiles
+-- Tree order is a strict order, any two different cells have it one way or the other, a cell is before those inside it.
+pub mod TreeOrder
 -- The leaves of a forest stand in tree order.
 pub mod Order
 -- What holds of a good sheet, and what its bytes determine.

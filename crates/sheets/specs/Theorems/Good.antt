@@ -8,6 +8,7 @@ use lib.ListN.{length}
 use Rattle.dimension.specs.Sizes.{greatestDepth}
 use Rattle.bisection.specs.Roots.{roots}
 use Rattle.positions.specs.RootNumbers.{roots-some}
+use Rattle.positions.specs.DictionaryOrder.{roots-rise}
 use Rattle.sheets.specs.Forests.{Cell, rootCells, Leaves, InOrder}
 use Rattle.sheets.specs.Sheets.{GoodSheet}
 use Rattle.sheets.specs.Theorems.Frontier.{State, state, Follows, end, good-follows, follows-one}
@@ -17,8 +18,8 @@ use Rattle.sheets.specs.Theorems.Tiles.{Tiles, leaves-tile, treesOf, for
 use Rattle.sheets.specs.Theorems.Order.{leaves-in-order}
 
 module _ {mark : List ℕ} {width : ℕ} {sheet : List ℕ} {n : ℕ} (g : GoodSheet mark width sheet n) where
-  pub good-in-order : InOrder (roots (g .dimension)) (g .cells)
-  good-in-order = leaves-in-order (roots (g .dimension)) (g .leaves)
+  pub good-in-order : InOrder (g .cells)
+  good-in-order = leaves-in-order (roots (g .dimension)) (roots-rise (g .dimension)) (g .leaves)
 
   pub good-tiles : Tiles (greatestDepth (g .dimension)) (roots (g .dimension)) 0 (g .cells)
   good-tiles = leaves-tile (roots (g .dimension)) (g .leaves)
