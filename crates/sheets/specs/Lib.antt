@@ -8,5 +8,4 @@ pub mod Theorems
 -- What the functions answer, and what their proofs use.
 pub mod Steps
 pub mod StepLaws
-pub mod Lengths
 pub mod Progress

@@ -14,9 +14,11 @@ use lib.Seq.{drop-drop, drop-cons, take-all, take-at, take-add}
 use Rattle.dimension.specs.Sizes.{isDimension, greatestDepth, rootCount}
 use Rattle.dimension.specs.Laws.{dimension}
 use Rattle.bisection.specs.Roots.{GoodRoot, GoodPath, roots}
-use Rattle.bisection.specs.Codes.{codeOf, IsCodeOf, dimensionOf}
+use Rattle.bisection.specs.Codes.{codeOf, IsCodeOf}
 use Rattle.bisection.specs.Refusals.{done}
-use Rattle.bisection.specs.Theorems.CodePaths.{one-path, path-steps, length-root}
+use Rattle.bisection.specs.Theorems.CodePaths.{one-path, path-steps}
+use Rattle.codes.specs.Fronts.{frontDimension, frontCode}
+use Rattle.codes.specs.Fronts.Laws.{front-code-dimension, front-root}
 use Rattle.positions.specs.declared.Position.{Position}
 use Rattle.positions.specs.Positions.{startOf, sizeOf, PositionIs}
 use Rattle.positions.specs.RootNumbers.{roots-count, roots-some, roots-apart}
@@ -24,12 +26,11 @@ use Rattle.sheets.specs.declared.State.{State}
 use Rattle.sheets.specs.declared.SheetAnswer.{SheetAnswer}
 use Rattle.sheets.specs.declared.Stepped.{Stepped}
 use Rattle.sheets.specs.Forests.{Cell, cell, Leaves, Within}
-use Rattle.sheets.specs.Sheets.{sheetMark, sampleWidth, refusedLeaf, Records, GoodSheet, Begins, behindMark, codeIn, recordLength, recordRefusal, Read, start, next, told, good, record-refused, not-next, ended-early, SheetIs}
-use Rattle.sheets.specs.Steps.{Fits, TakeIs, not-taken, on, over, moved, StepIs, own, read}
+use Rattle.sheets.specs.Sheets.{refusedLeaf, Records, GoodSheet, Begins, behindMark, recordLength, recordRefusal, Read, start, next, told, Checks, good, record-refused, not-next, ended-early}
+use Rattle.sheets.specs.Steps.{Fits, TakeIs, not-taken, on, over, moved, StepIs, own-refusal, read}
 use Rattle.sheets.specs.Theorems.Frontier.{bit, steps, steps-length, zeros, zeros-length, advance, Follows, end, leaf, begins-follows, follows-begins, good-follows, follows-good, follows-one, Split, follows-split, follows-join}
 use Rattle.sheets.specs.Theorems.Frontier as frontier
 use Rattle.sheets.specs.Theorems.Line.{Ends, at-root, at-one, Zeroed, start-next, start-zeros, start-inside, Advanced, same-root, root-over, advanced, bits, Bits}
-use Rattle.sheets.specs.Theorems.Reading.{in-dimension}
 use Rattle.sheets.specs.Theorems.Listing.{GoodCell, recordOf, IsRecord, record-read, Listed, listed-none, listed-more, listed-join, listed-empty, Cut, cut, CellsIn, cells-none, cells-more, cells-join, cells-front, cells-within, records-listed, listed-records, write, records-join, roots-in, follows-cells, leaves-cells, same-dimension}
 use Rattle.sheets.specs.Theorems.Determined.{record-inside}
 
@@ -51,17 +52,17 @@ pub data Front (cells : List Cell) (s : State) : Type 0 where
   fresh : cells ≡ [] → s .dimension ≡ 0 → s .root ≡ 0 → s .start ≡ 0 → Front cells s
   within : isDimension (s .dimension) ≡ true → 0 < length cells → Stands (s .dimension) cells (s .root) (s .start) → Front cells s
 
-pub record Going (sheet : List ℕ) (s : State) : Type 0 where
+pub record Going (mark : List ℕ) (width : ℕ) (sheet : List ℕ) (s : State) : Type 0 where
   pub inside : s .offset ≤ length sheet
   pub few : s .records ≤ s .offset
   pub cells : List Cell
-  pub listed : Listed sheetMark sampleWidth cells (take (s .offset) sheet)
+  pub listed : Listed mark width cells (take (s .offset) sheet)
   pub count : length cells ≡ s .records
-  pub reading : Read sheetMark sampleWidth sheet (s .offset) (s .records)
+  pub reading : Read mark width sheet (s .offset) (s .records)
   pub front : Front cells s
 
-pub going-start : (sheet : List ℕ) → Going sheet (record { offset = 0; records = 0; dimension = 0; root = 0; start = 0 })
-going-start sheet = record { inside = omega arith; few = omega arith; cells = []; listed = listed-none; count = refl; reading = start; front = fresh refl refl refl refl }
+pub going-start : (mark : List ℕ) (width : ℕ) (sheet : List ℕ) → Going mark width sheet (record { offset = 0; records = 0; dimension = 0; root = 0; start = 0 })
+going-start mark width sheet = record { inside = omega arith; few = omega arith; cells = []; listed = listed-none; count = refl; reading = start; front = fresh refl refl refl refl }
 
 -- nothing read: the first root's empty path
 stands-first : (d : ℕ) → Stands d [] 0 0
@@ -179,29 +180,29 @@ last-dimension : {d : ℕ} (cs : List Cell) (c : Cell) → CellsIn d (cs ++ c �
 last-dimension [] c (cells-more g e l) = e
 last-dimension (x ∷ cs) c (cells-more g e l) = last-dimension cs c l
 
-listed-good : {sheet : List ℕ} {n : ℕ} (g : GoodSheet sheetMark sampleWidth sheet n) → Listed sheetMark sampleWidth (g .cells) sheet
+listed-good : {mark : List ℕ} {width : ℕ} {sheet : List ℕ} {n : ℕ} (g : GoodSheet mark width sheet n) → Listed mark width (g .cells) sheet
 listed-good g = records-listed (leaves-cells (g .dimension) (g .is-dimension) (g .leaves)) (g .records)
 
-module _ {sheet : List ℕ} {s : State} (g : Going sheet s) where
+module _ {mark : List ℕ} {width : ℕ} {sheet : List ℕ} {s : State} (g : Going mark width sheet s) where
   -- one record more
-  module _ (ok : recordRefusal sheetMark sampleWidth (drop (s .offset) sheet) ≡ done) where
+  module _ (ok : recordRefusal mark width (drop (s .offset) sheet) ≡ done) where
     abbrev n : ℕ
-    n = recordLength sheetMark sampleWidth (drop (s .offset) sheet)
+    n = recordLength mark width (drop (s .offset) sheet)
 
-    it : IsRecord sheetMark sampleWidth (drop (s .offset) sheet)
-    it = record-read sheetMark sampleWidth (drop (s .offset) sheet) ok
+    it : IsRecord mark width (drop (s .offset) sheet)
+    it = record-read mark width (drop (s .offset) sheet) ok
 
     abbrev c : Cell
     c = it .of
 
     abbrev piece : List ℕ
-    piece = recordOf sheetMark (it .of) (it .samples) []
+    piece = recordOf mark (it .of) (it .samples) []
 
     regroup : (a b c d : List ℕ) → (a ++ (b ++ (c ++ []))) ++ d ≡ a ++ (b ++ (c ++ d))
     regroup a b c d = simp append-assoc
 
     whole : drop (s .offset) sheet ≡ piece ++ drop n (drop (s .offset) sheet)
-    whole = it .is ∙ sym (regroup sheetMark (codeOf (it .of .root) (it .of .path)) (it .samples) (drop (recordLength sheetMark sampleWidth (drop (s .offset) sheet)) (drop (s .offset) sheet)))
+    whole = it .is ∙ sym (regroup mark (codeOf (it .of .root) (it .of .path)) (it .samples) (drop (recordLength mark width (drop (s .offset) sheet)) (drop (s .offset) sheet)))
 
     piece-size : length piece ≡ n
     piece-size = omega (arith, ap length whole, length-append piece (drop n (drop (s .offset) sheet)), length-drop n (drop (s .offset) sheet), it .inside)
@@ -209,20 +210,20 @@ module _ {sheet : List ℕ} {s : State} (g : Going sheet s) where
     to-is : take (s .offset + n) sheet ≡ take (s .offset) sheet ++ piece
     to-is = take-add (s .offset) n sheet ∙ ap (λ (l : List ℕ). take (s .offset) sheet ++ l) (ap (λ (l : List ℕ). take n l) whole ∙ take-at piece (drop n (drop (s .offset) sheet)) n piece-size)
 
-    more-listed : Listed sheetMark sampleWidth (g .cells ++ c ∷ []) (take (s .offset + n) sheet)
-    more-listed = subst (Listed sheetMark sampleWidth (g .cells ++ it .of ∷ [])) (sym to-is) (listed-join sheetMark sampleWidth (g .listed) (listed-more (it .good) (it .samples) (it .size) refl listed-none))
+    more-listed : Listed mark width (g .cells ++ c ∷ []) (take (s .offset + n) sheet)
+    more-listed = subst (Listed mark width (g .cells ++ it .of ∷ [])) (sym to-is) (listed-join mark width (g .listed) (listed-more (it .good) (it .samples) (it .size) refl listed-none))
 
-    axes : length (c .root) ≡ dimensionOf (behindMark sheetMark (drop (s .offset) sheet))
-    axes = length-root (record { good-root = it .good .good-root; good-path = it .good .good-path; is = it .code-is }) ∙ in-dimension (behindMark sheetMark (drop (s .offset) sheet))
+    axes : length (c .root) ≡ frontDimension (behindMark mark (drop (s .offset) sheet))
+    axes = sym (front-root (record { good-root = it .good .good-root; good-path = it .good .good-path; is = it .code-is })) ∙ front-code-dimension (behindMark mark (drop (s .offset) sheet))
 
     abbrev d : ℕ
-    d = dimensionOf (behindMark sheetMark (drop (s .offset) sheet))
+    d = frontDimension (behindMark mark (drop (s .offset) sheet))
 
     is-d : isDimension d ≡ true
     is-d = subst (λ (k : ℕ). isDimension k ≡ true) axes (it .good .good-root .dimension)
 
     -- the leaf's position
-    module _ (leaf : Position) (at : PositionIs (codeIn (behindMark sheetMark (drop (s .offset) sheet))) leaf) where
+    module _ (leaf : Position) (at : PositionIs (frontCode (behindMark mark (drop (s .offset) sheet))) leaf) where
       the-cell : (at .root ≡ it .of .root) × (at .path ≡ it .of .path)
       the-cell = one-path (at .code-of) (record { good-root = it .good .good-root; good-path = it .good .good-path; is = it .code-is })
 
@@ -239,11 +240,11 @@ module _ {sheet : List ℕ} {s : State} (g : Going sheet s) where
       leaf-size = at .size-is ∙ ap (λ (k : ℕ). sizeOf (greatestDepth k) (at .path)) (ap length (the-cell .0) ∙ axes) ∙ ap (sizeOf (greatestDepth d)) (the-cell .1)
 
       -- a good sheet that begins so has the leaf next
-      fits : Begins sheetMark sampleWidth (take (s .offset + n) sheet) → Fits s d leaf
+      fits : Begins mark width (take (s .offset + n) sheet) → Fits s d leaf
       fits b = record { dimension-fits = same; root-fits = roots-apart d (leaf .root) (s .root) number-in (next .0) (number-is ∙ sym (next .1)); start-fits = leaf-start ∙ next-start d is-d (g .cells) (s .root) (s .start) w c (it .good) axes u f }
         where
-          k : Cut sheetMark sampleWidth (b .good .cells) (g .cells ++ c ∷ []) (b .rest)
-          k = cut sheetMark sampleWidth (b .rest) more-listed (listed-good (b .good)) refl
+          k : Cut mark width (b .good .cells) (g .cells ++ c ∷ []) (b .rest)
+          k = cut mark width (b .rest) more-listed (listed-good (b .good)) refl
 
           d′ : ℕ
           d′ = b .good .dimension
@@ -284,20 +285,20 @@ module _ {sheet : List ℕ} {s : State} (g : Going sheet s) where
         after : Leafed d (g .cells) c (s .root) (leaf .start + leaf .size)
         after = leafed d is-d (g .cells) (s .root) (s .start) w c (it .good) axes (subst (λ (k : ℕ). k < length (roots d)) (ft .root-fits) number-in) (ap (λ (k : ℕ). getD (roots d) k []) (sym (ft .root-fits)) ∙ number-is) (sym leaf-start ∙ ft .start-fits) (leaf .start + leaf .size) (ap (λ (k : ℕ). k + leaf .size) (ft .start-fits) ∙ ap (λ (k : ℕ). s .start + k) leaf-size)
 
-        begun : {root st : ℕ} → Stands d (g .cells ++ c ∷ []) root st → Begins sheetMark sampleWidth (take (s .offset + n) sheet)
+        begun : {root st : ℕ} → Stands d (g .cells ++ c ∷ []) root st → Begins mark width (take (s .offset + n) sheet)
         begun v =
             let r = follows-begins (v .follows) (cells-within (v .cells-in)) in
-            let x = write sheetMark sampleWidth d (r .0) in
+            let x = write mark width d (r .0) in
             record { rest = x .sheet; count = length ((g .cells ++ c ∷ []) ++ r .0); good = record { dimension = d; is-dimension = is-d; cells = (g .cells ++ c ∷ []) ++ r .0; leaves = r .1; records = records-join (listed-records (v .cells-in) more-listed) (x .records); count = refl } }
 
-        going : {root st : ℕ} → Stands d (g .cells ++ c ∷ []) root st → Going sheet (record { offset = s .offset + n; records = s .records + 1; dimension = d; root = root; start = st })
+        going : {root st : ℕ} → Stands d (g .cells ++ c ∷ []) root st → Going mark width sheet (record { offset = s .offset + n; records = s .records + 1; dimension = d; root = root; start = st })
         going v = record {
           inside = omega (arith, it .inside, length-drop (s .offset) sheet, g .inside);
-          few = omega (arith, g .few, record-inside sheetMark sampleWidth (drop (s .offset) sheet) ok .1);
+          few = omega (arith, g .few, record-inside mark width (drop (s .offset) sheet) ok .1);
           cells = g .cells ++ c ∷ [];
           listed = more-listed;
           count = length-append (g .cells) (c ∷ []) ∙ ap (λ (k : ℕ). k + 1) (g .count);
-          reading = subst (λ (k : ℕ). Read sheetMark sampleWidth sheet (s .offset + n) k) plus (next (g .reading) ok refl (begun v));
+          reading = subst (λ (k : ℕ). Read mark width sheet (s .offset + n) k) plus (next (g .reading) ok refl (begun v));
           front = within is-d (omega (arith, length-append (g .cells) (c ∷ []))) v;
         }
           where
@@ -306,21 +307,21 @@ module _ {sheet : List ℕ} {s : State} (g : Going sheet s) where
 
   -- the ways out of the loop's body
   module _ (lt : s .offset < length sheet) where
-    pub go-refused : {r : Stepped} → StepIs s (drop (s .offset) sheet) r → r .refusal ≢ 0 → SheetIs sheet (told (r .refusal) (s .offset) 0)
-    go-refused (own h e) x = record-refused (g .reading) lt h (ap (λ (k : ℕ). told k (s .offset) 0) e)
+    pub go-refused : {r : Stepped} → StepIs mark width s (drop (s .offset) sheet) r → r .refusal ≢ 0 → Checks mark width sheet (told (r .refusal) (s .offset) 0)
+    go-refused (own-refusal h e) x = record-refused (g .reading) lt h (ap (λ (k : ℕ). told k (s .offset) 0) e)
     go-refused (read pos ok at (not-taken h e)) x = not-next (g .reading) lt ok (λ b. h (fits ok pos at b)) (ap (λ (k : ℕ). told k (s .offset) 0) e)
     go-refused (read pos ok at (on h y e)) x = absurd (x (ap (λ (k : Stepped). k .refusal) e))
     go-refused (read pos ok at (over h y e)) x = absurd (x (ap (λ (k : Stepped). k .refusal) e))
 
     pub record Gone (t : State) : Type 0 where
-      pub going-on : Going sheet t
+      pub going-on : Going mark width sheet t
       pub farther : s .offset < t .offset
 
-    gone : (ok : recordRefusal sheetMark sampleWidth (drop (s .offset) sheet) ≡ done) (root st : ℕ) → Going sheet (record { offset = s .offset + n ok; records = s .records + 1; dimension = d ok; root = root; start = st }) → Gone (record { offset = s .offset + n ok; records = s .records + 1; dimension = d ok; root = root; start = st })
-    gone ok root st v = record { going-on = v; farther = omega (arith, record-inside sheetMark sampleWidth (drop (s .offset) sheet) ok .1) }
+    gone : (ok : recordRefusal mark width (drop (s .offset) sheet) ≡ done) (root st : ℕ) → Going mark width sheet (record { offset = s .offset + n ok; records = s .records + 1; dimension = d ok; root = root; start = st }) → Gone (record { offset = s .offset + n ok; records = s .records + 1; dimension = d ok; root = root; start = st })
+    gone ok root st v = record { going-on = v; farther = omega (arith, record-inside mark width (drop (s .offset) sheet) ok .1) }
 
-    pub go-on : {r : Stepped} → StepIs s (drop (s .offset) sheet) r → r .refusal ≡ 0 → Gone (r .state)
-    go-on (own h e) x = absurd (h (sym e ∙ x))
+    pub go-on : {r : Stepped} → StepIs mark width s (drop (s .offset) sheet) r → r .refusal ≡ 0 → Gone (r .state)
+    go-on (own-refusal h e) x = absurd (h (sym e ∙ x))
     go-on (read pos ok at (not-taken h e)) x = absurd (omega (arith, sym e ∙ x))
     go-on (read pos ok at (on h y e)) x = subst Gone (sym (ap (λ (k : Stepped). k .state) e)) (gone ok (s .root) (pos .start + pos .size) (going ok pos at h (after ok pos at h .stays y)))
     go-on (read pos ok at (over h y e)) x = subst Gone (sym (ap (λ (k : Stepped). k .state) e)) (gone ok (s .root + 1) 0 (going ok pos at h (after ok pos at h .turns y)))
@@ -330,34 +331,34 @@ module _ {sheet : List ℕ} {s : State} (g : Going sheet s) where
     at-end : s .offset ≡ length sheet
     at-end = omega (arith, g .inside)
 
-    all-listed : Listed sheetMark sampleWidth (g .cells) sheet
-    all-listed = subst (Listed sheetMark sampleWidth (g .cells)) (take-all (s .offset) sheet le) (g .listed)
+    all-listed : Listed mark width (g .cells) sheet
+    all-listed = subst (Listed mark width (g .cells)) (take-all (s .offset) sheet le) (g .listed)
 
     -- a good sheet has these cells and no more
-    the-cells : {m : ℕ} (h : GoodSheet sheetMark sampleWidth sheet m) → h .cells ≡ g .cells
+    the-cells : {m : ℕ} (h : GoodSheet mark width sheet m) → h .cells ≡ g .cells
     the-cells h =
-        let k = cut sheetMark sampleWidth [] all-listed (listed-good h) (sym (append-nil sheet)) in
-        k .is ∙ ap (λ (l : List Cell). g .cells ++ l) (listed-empty sheetMark sampleWidth (k .listed) refl) ∙ append-nil (g .cells)
+        let k = cut mark width [] all-listed (listed-good h) (sym (append-nil sheet)) in
+        k .is ∙ ap (λ (l : List Cell). g .cells ++ l) (listed-empty mark width (k .listed) refl) ∙ append-nil (g .cells)
 
     no-roots : (d : ℕ) → roots d ≡ [] → ⊥
     no-roots d q = omega (arith, roots-some d, ap length q)
 
-    over-in : {m : ℕ} (h : GoodSheet sheetMark sampleWidth sheet m) → (x : frontier.State) × Follows (frontier.state (roots (h .dimension)) []) (g .cells) x × (x .roots ≡ [])
+    over-in : {m : ℕ} (h : GoodSheet mark width sheet m) → (x : frontier.State) × Follows (frontier.state (roots (h .dimension)) []) (g .cells) x × (x .roots ≡ [])
     over-in h = good-follows (subst (Leaves (roots (h .dimension)) (greatestDepth (h .dimension))) (the-cells h) (h .leaves))
 
-    pub go-fresh : s .dimension ≡ 0 → SheetIs sheet (told refusedLeaf (s .offset) 0)
+    pub go-fresh : s .dimension ≡ 0 → Checks mark width sheet (told refusedLeaf (s .offset) 0)
     go-fresh z = ended-early (g .reading) at-end (λ m h. never (g .front) h) refl
       where
-        never : {m : ℕ} → Front (g .cells) s → GoodSheet sheetMark sampleWidth sheet m → ⊥
+        never : {m : ℕ} → Front (g .cells) s → GoodSheet mark width sheet m → ⊥
         never (fresh a b r t) h =
             let o = over-in h in
             no-roots (h .dimension) (ap (λ (x : frontier.State). x .roots) (follows-one end (subst (λ (l : List Cell). Follows (frontier.state (roots (h .dimension)) []) l (o .0)) a (o .1))) ∙ o .2)
         never (within a l w) h = omega (arith, dimension (s .dimension) a .two)
 
-    pub go-early : s .dimension ≢ 0 → s .root ≢ rootCount (s .dimension) → SheetIs sheet (told refusedLeaf (s .offset) 0)
+    pub go-early : s .dimension ≢ 0 → s .root ≢ rootCount (s .dimension) → Checks mark width sheet (told refusedLeaf (s .offset) 0)
     go-early z q = ended-early (g .reading) at-end (λ m h. never (g .front) h) refl
       where
-        never : {m : ℕ} → Front (g .cells) s → GoodSheet sheetMark sampleWidth sheet m → ⊥
+        never : {m : ℕ} → Front (g .cells) s → GoodSheet mark width sheet m → ⊥
         never (fresh a b r t) h = z b
         never (within a l w) h =
             let o = over-in h in
@@ -373,10 +374,10 @@ module _ {sheet : List ℕ} {s : State} (g : Going sheet s) where
         by (fresh a b r t) = absurd (z b)
         by (within a l w) = a
 
-    pub go-good : s .dimension ≢ 0 → s .root ≡ rootCount (s .dimension) → SheetIs sheet (told done 0 (s .records))
+    pub go-good : s .dimension ≢ 0 → s .root ≡ rootCount (s .dimension) → Checks mark width sheet (told done 0 (s .records))
     go-good z q = by (g .front)
       where
-        by : Front (g .cells) s → SheetIs sheet (told done 0 (s .records))
+        by : Front (g .cells) s → Checks mark width sheet (told done 0 (s .records))
         by (fresh a b r t) = absurd (z b)
         by (within a l w) =
             let past : length (roots (s .dimension)) ≤ s .root = omega (arith, roots-count (s .dimension)) in
@@ -384,8 +385,8 @@ module _ {sheet : List ℕ} {s : State} (g : Going sheet s) where
             good (record { dimension = s .dimension; is-dimension = a; cells = g .cells; leaves = follows-good (subst (λ (rs : List (List ℕ)). Follows (frontier.state (roots (s .dimension)) []) (g .cells) (frontier.state rs (w .path))) none (w .follows)) (cells-within (w .cells-in)); records = listed-records (w .cells-in) all-listed; count = g .count }) refl
 
 -- an answer by its fields
-pub answer-told : {sheet : List ℕ} (a : SheetAnswer) (x y : ℕ) → (a .refusal ≡ x) × (a .offset ≡ y) × (a .records ≡ 0) → SheetIs sheet (told x y 0) → SheetIs sheet a
-answer-told {sheet} a x y e r = subst (SheetIs sheet) (sym same) r
+pub answer-told : {mark : List ℕ} {width : ℕ} {sheet : List ℕ} (a : SheetAnswer) (x y : ℕ) → (a .refusal ≡ x) × (a .offset ≡ y) × (a .records ≡ 0) → Checks mark width sheet (told x y 0) → Checks mark width sheet a
+answer-told {mark} {width} {sheet} a x y e r = subst (Checks mark width sheet) (sym same) r
   where
     same : a ≡ told x y 0
     same = λ i. record { refusal = e .0 i; offset = e .1 i; records = e .2 i }

@@ -7,10 +7,11 @@ use mathlib.Core.Logic.{_≢_}
 use Prim.Native.Nat.{ℕ, zero, suc, _+_, _*_, _<_}
 use lib.Dec.{eqb, leb}
 use lib.ListN.{length, take, drop}
-use Rattle.dimension.specs.Sizes.{isDimension, greatestDepth, codeLength}
+use Rattle.dimension.specs.Sizes.{isDimension, greatestDepth}
 use Rattle.bisection.specs.Roots.{roots}
-use Rattle.bisection.specs.Codes.{codeOf, dimensionOf, depthOf, entriesOf, orthantsOf}
-use Rattle.bisection.specs.Refusals.{done, need, _then_, headRefusal, bodyRefusal}
+use Rattle.bisection.specs.Codes.{codeOf}
+use Rattle.bisection.specs.Refusals.{done, need, own, firstRefusal}
+use Rattle.codes.specs.Fronts.{frontRefusal, frontDimension, frontLength, frontCode, innerRefusal}
 use Rattle.sheets.specs.Forests.{Cell, Leaves}
 use Rattle.sheets.specs.declared.SheetAnswer.{SheetAnswer}
 
@@ -55,33 +56,36 @@ beginsWith [] bs = true
 beginsWith (m ∷ mark) [] = false
 beginsWith (m ∷ mark) (b ∷ bs) = eqb b m && beginsWith mark bs
 
--- what stands behind the mark, and the code at its front
+-- what stands behind the mark
 unfoldable pub behindMark : List ℕ → List ℕ → List ℕ
 behindMark mark bs = drop (length mark) bs
 
-unfoldable pub codeIn : List ℕ → List ℕ
-codeIn bs = take (codeLength (dimensionOf bs) (depthOf bs)) bs
+-- the bytes begin with the mark, and two more bytes follow it
+unfoldable pub isMarked : List ℕ → List ℕ → Bool
+isMarked mark bs = beginsWith mark bs && leb 2 (length (behindMark mark bs))
 
 -- how many bytes the code at the front of the bytes and its samples have
 unfoldable pub bodyLength : ℕ → List ℕ → ℕ
-bodyLength width bs = codeLength (dimensionOf bs) (depthOf bs) + width * suc (dimensionOf bs)
+bodyLength width bs = frontLength bs + width * suc (frontDimension bs)
 
 unfoldable pub recordLength : List ℕ → ℕ → List ℕ → ℕ
 recordLength mark width bs = length mark + bodyLength width (behindMark mark bs)
 
 -- the tests behind the mark: 1, 2, 13 (code cut), 4, 5, 6, 13 (samples cut)
 unfoldable pub unmarkedRefusal : ℕ → List ℕ → ℕ
-unmarkedRefusal width bs =
-    headRefusal (dimensionOf bs) (depthOf bs)
-    then need (leb (codeLength (dimensionOf bs) (depthOf bs)) (length bs)) refusedRecord
-    then bodyRefusal (dimensionOf (codeIn bs)) (depthOf (codeIn bs)) (entriesOf (codeIn bs)) (orthantsOf (codeIn bs))
-    then need (leb (bodyLength width bs) (length bs)) refusedRecord
+unmarkedRefusal width bs = firstRefusal (
+    own (frontRefusal bs)
+    ∷ need (leb (frontLength bs) (length bs)) refusedRecord
+    ∷ own (innerRefusal (frontCode bs))
+    ∷ need (leb (bodyLength width bs) (length bs)) refusedRecord
+    ∷ [])
 
 -- a record's own tests: 13 (mark, or fewer than two bytes after it), 1, 2, 13 (code cut), 4, 5, 6, 13 (samples cut)
 unfoldable pub recordRefusal : List ℕ → ℕ → List ℕ → ℕ
-recordRefusal mark width bs =
-    need (beginsWith mark bs && leb 2 (length (behindMark mark bs))) refusedRecord
-    then unmarkedRefusal width (behindMark mark bs)
+recordRefusal mark width bs = firstRefusal (
+    need (isMarked mark bs) refusedRecord
+    ∷ own (unmarkedRefusal width (behindMark mark bs))
+    ∷ [])
 
 -- n records read, up to an offset: each passes its own tests and is the next leaf
 pub data Read (mark : List ℕ) (width : ℕ) (sheet : List ℕ) : ℕ → ℕ → Type 0 where
@@ -93,12 +97,12 @@ told refusal offset records = record { refusal = refusal; offset = offset; recor
 
 -- what the sheet check answers: the number of records of a good sheet; otherwise the first refusal in reading order,
 -- a record's own or 14, and where the record begins, which for an early end is the sheet's length
-pub data Answers (mark : List ℕ) (width : ℕ) (sheet : List ℕ) (r : SheetAnswer) : Type 0 where
-  good : {n : ℕ} → GoodSheet mark width sheet n → r ≡ told done 0 n → Answers mark width sheet r
-  record-refused : {at n : ℕ} → Read mark width sheet at n → at < length sheet → recordRefusal mark width (drop at sheet) ≢ done → r ≡ told (recordRefusal mark width (drop at sheet)) at 0 → Answers mark width sheet r
-  not-next : {at n : ℕ} → Read mark width sheet at n → at < length sheet → recordRefusal mark width (drop at sheet) ≡ done → (Begins mark width (take (at + recordLength mark width (drop at sheet)) sheet) → ⊥) → r ≡ told refusedLeaf at 0 → Answers mark width sheet r
-  ended-early : {at n : ℕ} → Read mark width sheet at n → at ≡ length sheet → ((m : ℕ) → GoodSheet mark width sheet m → ⊥) → r ≡ told refusedLeaf at 0 → Answers mark width sheet r
+pub data Checks (mark : List ℕ) (width : ℕ) (sheet : List ℕ) (r : SheetAnswer) : Type 0 where
+  good : {n : ℕ} → GoodSheet mark width sheet n → r ≡ told done 0 n → Checks mark width sheet r
+  record-refused : {at n : ℕ} → Read mark width sheet at n → at < length sheet → recordRefusal mark width (drop at sheet) ≢ done → r ≡ told (recordRefusal mark width (drop at sheet)) at 0 → Checks mark width sheet r
+  not-next : {at n : ℕ} → Read mark width sheet at n → at < length sheet → recordRefusal mark width (drop at sheet) ≡ done → (Begins mark width (take (at + recordLength mark width (drop at sheet)) sheet) → ⊥) → r ≡ told refusedLeaf at 0 → Checks mark width sheet r
+  ended-early : {at n : ℕ} → Read mark width sheet at n → at ≡ length sheet → ((m : ℕ) → GoodSheet mark width sheet m → ⊥) → r ≡ told refusedLeaf at 0 → Checks mark width sheet r
 
 -- the contract of the sheet check
 abbrev pub SheetIs : List ℕ → SheetAnswer → Type 0
-SheetIs sheet r = Answers sheetMark sampleWidth sheet r
+SheetIs sheet r = Checks sheetMark sampleWidth sheet r

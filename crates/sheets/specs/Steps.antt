@@ -5,27 +5,38 @@ use mathlib.Core.List.{List, [], _∷_, _++_}
 use mathlib.Core.Logic.{_≢_}
 use Prim.Native.Nat.{ℕ, zero, suc, _+_, _-_, _*_, _^_, _≤_, _<_}
 use lib.ListN.{length, take, drop}
-use Rattle.dimension.specs.Sizes.{isDimension, greatestDepth, codeLength}
-use Rattle.bisection.specs.Codes.{dimensionOf, depthOf}
+use Rattle.dimension.specs.Sizes.{isDimension, greatestDepth}
 use Rattle.bisection.specs.Refusals.{done}
+use Rattle.codes.specs.Fronts.{frontDimension, frontLength, frontCode}
 use Rattle.positions.specs.declared.Position.{Position}
 use Rattle.positions.specs.Positions.{PositionIs}
 use Rattle.sheets.specs.declared.State.{State}
 use Rattle.sheets.specs.declared.Stepped.{Stepped}
 use Rattle.sheets.specs.declared.Body.{Body}
-use Rattle.sheets.specs.declared.Lengths.{Lengths}
-use Rattle.sheets.specs.Sheets.{sheetMark, sampleWidth, refusedLeaf, behindMark, codeIn, bodyLength, recordLength, unmarkedRefusal, recordRefusal}
+use Rattle.sheets.specs.declared.RecordParts.{RecordParts}
+use Rattle.sheets.specs.declared.Edition.{Edition}
+use Rattle.sheets.specs.Sheets.{sheetMark, sampleWidth, refusedLeaf, behindMark, bodyLength, recordLength, unmarkedRefusal, recordRefusal}
 
--- behind the mark: the first refusal, or the lengths
-pub record BodyIs (bs : List ℕ) (r : Body) : Type 0 where
-  pub refusal-is : r .refusal ≡ unmarkedRefusal sampleWidth bs
-  pub code-is : unmarkedRefusal sampleWidth bs ≡ done → r .code ≡ codeLength (dimensionOf bs) (depthOf bs)
-  pub length-is : unmarkedRefusal sampleWidth bs ≡ done → r .length ≡ bodyLength sampleWidth bs
+-- the mark of an edition, and the edition of document 01
+abbrev pub markOf : Edition → List ℕ
+markOf e = e .first ∷ e .second ∷ []
 
--- the lengths of a record: of the code behind its mark, and of the whole
-pub record LengthsAre (bs : List ℕ) (r : Lengths) : Type 0 where
-  pub code-is : r .code ≡ codeLength (dimensionOf (behindMark sheetMark bs)) (depthOf (behindMark sheetMark bs))
-  pub whole-is : r .whole ≡ recordLength sheetMark sampleWidth bs
+pub record IsFirst (e : Edition) : Type 0 where
+  pub mark-is : markOf e ≡ sheetMark
+  pub width-is : e .width ≡ sampleWidth
+
+-- behind the mark: the first refusal, or the dimension and the lengths
+pub record BodyIs (width : ℕ) (bs : List ℕ) (r : Body) : Type 0 where
+  pub refusal-is : r .refusal ≡ unmarkedRefusal width bs
+  pub dimension-is : unmarkedRefusal width bs ≡ done → r .dimension ≡ frontDimension bs
+  pub code-is : unmarkedRefusal width bs ≡ done → r .code ≡ frontLength bs
+  pub length-is : unmarkedRefusal width bs ≡ done → r .length ≡ bodyLength width bs
+
+-- the parts of a record: its dimension, how long the code behind its mark is, and the whole
+pub record PartsAre (mark : List ℕ) (width : ℕ) (bs : List ℕ) (r : RecordParts) : Type 0 where
+  pub dimension-is : r .dimension ≡ frontDimension (behindMark mark bs)
+  pub code-is : r .code ≡ frontLength (behindMark mark bs)
+  pub whole-is : r .whole ≡ recordLength mark width bs
 
 -- the leaf is of the dimension read so far, and starts where the last one ended
 pub record Fits (s : State) (d : ℕ) (leaf : Position) : Type 0 where
@@ -54,6 +65,6 @@ pub record StepReady (s : State) (bs : List ℕ) : Type 0 where
   pub few : s .records ≤ s .offset
 
 -- a record: its own refusal, or its leaf taken
-pub data StepIs (s : State) (bs : List ℕ) (r : Stepped) : Type 0 where
-  own : recordRefusal sheetMark sampleWidth bs ≢ done → r .refusal ≡ recordRefusal sheetMark sampleWidth bs → StepIs s bs r
-  read : (leaf : Position) → recordRefusal sheetMark sampleWidth bs ≡ done → PositionIs (codeIn (behindMark sheetMark bs)) leaf → TakeIs s (dimensionOf (behindMark sheetMark bs)) leaf (recordLength sheetMark sampleWidth bs) r → StepIs s bs r
+pub data StepIs (mark : List ℕ) (width : ℕ) (s : State) (bs : List ℕ) (r : Stepped) : Type 0 where
+  own-refusal : recordRefusal mark width bs ≢ done → r .refusal ≡ recordRefusal mark width bs → StepIs mark width s bs r
+  read : (leaf : Position) → recordRefusal mark width bs ≡ done → PositionIs (frontCode (behindMark mark bs)) leaf → TakeIs s (frontDimension (behindMark mark bs)) leaf (recordLength mark width bs) r → StepIs mark width s bs r

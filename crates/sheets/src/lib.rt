@@ -1,13 +1,11 @@
 // The sheet layer: records, and the check of a whole sheet. It knows a code by what the code layer says of it: its
 // head, its body, and where its cell stands on the line. The check is a loop over one step, whose state is small.
 ghost use mathlib.Core.Path.{_≡_};
-ghost use mathlib.Core.Bool.{Bool, true, false, _&&_};
-ghost use Prim.Native.Nat.{_+_, _-_, _*_, _^_, _≤_, _<_};
-ghost use lib.Dec.{leb};
-ghost use lib.ListN.{length, take, drop};
+ghost use Prim.Native.Nat.{suc, _*_, _≤_};
+ghost use lib.ListN.{length};
 ghost use Rattle.bisection.specs.Refusals.{done};
-ghost use Rattle.sheets.specs.Sheets.{sheetMark, sampleWidth, beginsWith, behindMark, recordRefusal, SheetIs};
-ghost use Rattle.sheets.specs.Steps.{BodyIs, LengthsAre, TakeReady, TakeIs, StepReady, StepIs};
+ghost use Rattle.sheets.specs.Sheets.{isMarked, recordRefusal, SheetIs};
+ghost use Rattle.sheets.specs.Steps.{markOf, IsFirst, BodyIs, PartsAre, TakeReady, TakeIs, StepReady, StepIs};
 use bisection::DONE;
 use dimension::Dim;
 use positions::Position;
@@ -16,14 +14,26 @@ pub const REFUSED_RECORD: u8 = 13;
 
 pub const REFUSED_LEAF: u8 = 14;
 
-// The two bytes before each code, and how many bytes a sample has.
-const MARK_FIRST: u8 = 0x43;
-
-const MARK_SECOND: u8 = 0x4C;
-
+// How many bytes a mark has.
 pub const MARK_LENGTH: usize = 2;
 
-const SAMPLE_WIDTH: usize = 2;
+// An edition of sheets: the two mark bytes before each code, and how many bytes a sample has.
+pub struct Edition {
+    pub first: u8,
+    pub second: u8,
+    pub width: u8,
+}
+
+// The edition of document 01.
+pub fn first_edition() -> Edition
+    ensures { λ r. ⌜ IsFirst r ⌝ }
+{
+    Edition {
+        first: 0x43,
+        second: 0x4C,
+        width: 2,
+    }
+}
 
 // The answer of the sheet check: where a refused record begins, or the number of records.
 #[repr(C)]
@@ -34,63 +44,74 @@ pub struct SheetAnswer {
 }
 
 // What has been read: how far, how many records, and where the next leaf starts. Dimension 0: no record yet.
-pub struct State {
-    pub offset: usize,
-    pub records: usize,
-    pub dimension: u8,
-    pub root: usize,
-    pub start: u64,
+struct State {
+    offset: usize,
+    records: usize,
+    dimension: u8,
+    root: usize,
+    start: u64,
 }
 
 // A step's refusal, or what has been read after it.
-pub struct Stepped {
-    pub refusal: u8,
-    pub state: State,
+struct Stepped {
+    refusal: u8,
+    state: State,
 }
 
-// The refusal of a record behind its mark, or the lengths of its code and of code and samples.
-pub struct Body {
-    pub refusal: u8,
-    pub code: usize,
-    pub length: usize,
+// The refusal of a record behind its mark, or its dimension and the lengths of its code and of code and samples.
+struct Body {
+    refusal: u8,
+    dimension: u8,
+    code: usize,
+    length: usize,
 }
 
-// How many bytes a record's code has, and the whole record.
-pub struct Lengths {
+// A record's dimension, and how many bytes its code has, and the whole record.
+pub struct RecordParts {
+    pub dimension: u8,
     pub code: usize,
     pub whole: usize,
 }
 
 // The bytes begin with the mark, and two more bytes follow it.
-fn is_marked(bytes: &[u8]) -> bool
-    ensures { λ r. ⌜ r ≡ (beginsWith sheetMark (now (bytes .entry)) && leb 2 (length (behindMark sheetMark (now (bytes .entry))))) ⌝ }
+fn is_marked(edition: Edition, bytes: &[u8]) -> bool
+    ensures { λ r. ⌜ r ≡ isMarked (markOf edition) (now (bytes .entry)) ⌝ }
 {
     if bytes.len() < MARK_LENGTH + 2 {
         return false;
     }
-    if bytes[0] != MARK_FIRST {
+    if bytes[0] != edition.first {
         return false;
     }
-    bytes[1] == MARK_SECOND
+    bytes[1] == edition.second
+}
+
+// How many bytes the samples of a record have.
+fn samples_length(width: u8, dimension: u8) -> usize
+    ensures { λ r. ⌜ (r ≡ width * suc dimension) × (r ≤ 65536) ⌝ }
+{
+    common::size(width) * (common::size(dimension) + 1)
 }
 
 // The tests behind the mark, in document 01's order.
-fn read_body(bytes: &[u8]) -> Body
+fn read_body(width: u8, bytes: &[u8]) -> Body
     requires { ⌜ 2 ≤ length (now bytes) ⌝ }
-    ensures { λ r. ⌜ BodyIs (now (bytes .entry)) r ⌝ }
+    ensures { λ r. ⌜ BodyIs width (now (bytes .entry)) r ⌝ }
 {
-    let head = codes::code_head(bytes[0], bytes[1]);
-    let code = head.length;
+    let head = codes::code_head(bytes);
     if head.refusal != DONE {
         return Body {
             refusal: head.refusal,
+            dimension: 0,
             code: 0,
             length: 0,
         };
     }
+    let code = head.length;
     if bytes.len() < code {
         return Body {
             refusal: REFUSED_RECORD,
+            dimension: 0,
             code: 0,
             length: 0,
         };
@@ -99,35 +120,41 @@ fn read_body(bytes: &[u8]) -> Body
     if refusal != DONE {
         return Body {
             refusal,
+            dimension: 0,
             code: 0,
             length: 0,
         };
     }
-    let length = code + SAMPLE_WIDTH * (common::size(bytes[0]) + 1);
+    let dimension = head.dimension;
+    let length = code + samples_length(width, dimension);
     if bytes.len() < length {
         return Body {
             refusal: REFUSED_RECORD,
+            dimension: 0,
             code: 0,
             length: 0,
         };
     }
     Body {
         refusal: DONE,
+        dimension,
         code,
         length,
     }
 }
 
-// The lengths of a record that passes its own tests.
-pub fn record_lengths(bytes: &[u8]) -> Lengths
-    requires { ⌜ recordRefusal sheetMark sampleWidth (now bytes) ≡ done ⌝ }
-    ensures { λ r. ⌜ LengthsAre (now (bytes .entry)) r ⌝ }
+// The parts of a record that passes its own tests.
+pub fn record_parts(edition: Edition, bytes: &[u8]) -> RecordParts
+    requires { ⌜ recordRefusal (markOf edition) (edition .width) (now bytes) ≡ done ⌝ }
+    ensures { λ r. ⌜ PartsAre (markOf edition) (edition .width) (now (bytes .entry)) r ⌝ }
 {
-    let dimension = bytes[MARK_LENGTH];
-    let code = codes::code_head(dimension, bytes[MARK_LENGTH + 1]).length;
-    Lengths {
+    let head = codes::code_head(&bytes[MARK_LENGTH..]);
+    let dimension = head.dimension;
+    let code = head.length;
+    RecordParts {
+        dimension,
         code,
-        whole: MARK_LENGTH + code + SAMPLE_WIDTH * (common::size(dimension) + 1),
+        whole: MARK_LENGTH + (code + samples_length(edition.width, dimension)),
     }
 }
 
@@ -181,18 +208,18 @@ fn take_leaf(state: State, dimension: u8, leaf: Position, length: usize) -> Step
 }
 
 // One record: `bytes` are those from the offset on.
-pub fn step(state: State, bytes: &[u8]) -> Stepped
+fn step(edition: Edition, state: State, bytes: &[u8]) -> Stepped
     requires { ⌜ StepReady state (now bytes) ⌝ }
-    ensures { λ r. ⌜ StepIs state (now (bytes .entry)) r ⌝ }
+    ensures { λ r. ⌜ StepIs (markOf edition) (edition .width) state (now (bytes .entry)) r ⌝ }
 {
-    if !is_marked(bytes) {
+    if !is_marked(edition, bytes) {
         return Stepped {
             refusal: REFUSED_RECORD,
             state,
         };
     }
     let rest = &bytes[MARK_LENGTH..];
-    let body = read_body(rest);
+    let body = read_body(edition.width, rest);
     if body.refusal != DONE {
         return Stepped {
             refusal: body.refusal,
@@ -200,7 +227,7 @@ pub fn step(state: State, bytes: &[u8]) -> Stepped
         };
     }
     let leaf = positions::position_of(&rest[..body.code]);
-    take_leaf(state, rest[0], leaf, MARK_LENGTH + body.length)
+    take_leaf(state, body.dimension, leaf, MARK_LENGTH + body.length)
 }
 
 // A refusal of the record at an offset.
@@ -218,6 +245,7 @@ fn refused(refusal: u8, offset: usize) -> SheetAnswer
 pub fn sheet_check(sheet: &[u8]) -> SheetAnswer
     ensures { λ r. ⌜ SheetIs (now (sheet .entry)) r ⌝ }
 {
+    let edition = first_edition();
     let mut state = State {
         offset: 0,
         records: 0,
@@ -227,7 +255,7 @@ pub fn sheet_check(sheet: &[u8]) -> SheetAnswer
     };
     while state.offset < sheet.len() {
         let offset = state.offset;
-        let next = step(state, &sheet[offset..]);
+        let next = step(edition, state, &sheet[offset..]);
         if next.refusal != DONE {
             return refused(next.refusal, offset);
         }

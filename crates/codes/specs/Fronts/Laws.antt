@@ -6,7 +6,7 @@ use mathlib.Core.List.{List, _++_}
 use Prim.Native.Nat.{ℕ, suc, _+_, _≤_, _<_, min}
 use native.Mathlib.Omega.{arith}
 use lib.Dec.{leb, eqb}
-use lib.ListN.{length, getD, take, length-append, length-take, List·getD-append}
+use lib.ListN.{length, getD, take, drop, length-append, length-take, take-append-drop, List·getD-append}
 use lib.Seq.{take-at, getD-take}
 use borrow.Author.Tests.{leb-true, le-leb, eqb-true, eq-eqb}
 use Rattle.dimension.specs.Sizes.{isDimension, codeLength}
@@ -63,6 +63,14 @@ module _ (bs : List ℕ) where
   pub front-code-dimension : frontDimension (frontCode bs) ≡ frontDimension bs
   unfolding frontDimension
   front-code-dimension = in-dimension
+
+  pub front-is-front : take (frontLength bs) bs ≡ frontCode bs
+  unfolding frontCode
+  front-is-front = refl
+
+  pub front-code-rest : bs ≡ frontCode bs ++ drop (frontLength bs) bs
+  unfolding frontCode
+  front-code-rest = sym (take-append-drop (frontLength bs) bs)
 
   module _ (room : frontLength bs ≤ length bs) where
     pub front-code-length : length (frontCode bs) ≡ frontLength bs

@@ -1,12 +1,10 @@
 -- `step` meets its contract: the mark, the tests behind it, then the leaf.
-use mathlib.Core.Path.{_≡_, refl, sym, ap, _∙_, subst}
-use Prim.Native.Nat.{ℕ, suc, _+_, _-_, _*_, _^_, _≤_, _<_}
+use mathlib.Core.Path.{_≡_, refl, sym, ap, _∙_}
+use Prim.Native.Nat.{_+_, _≤_}
 use native.Mathlib.Omega.{arith}
-use lib.ListN.{length, getD, take, drop}
-use lib.ListN.{length-take}
+use lib.ListN.{length, length-take, length-drop}
 use borrow.Author.Tests.{not-true, not-false}
-use Rattle.bisection.specs.Codes.{dimensionOf}
-use Rattle.sheets.specs.StepLaws.{step-unmarked, four-left, two-left, step-own, step-code-room, step-code, step-long, step-ready, step-read, part-marked, length-rest, least}
+use Rattle.sheets.specs.StepLaws.{step-unmarked, marked-long, two-left, step-own, step-code-room, step-code, step-long, step-ready, step-read, part-marked, part-all, least}
 use borrow.Author.Needs.{needs}
 use Rattle.sheets.proofs.step.Statement.{statement}
 use Rattle.sheets.proofs.step.Tie as tie
@@ -15,42 +13,86 @@ is-marked-requires : tie.Need-is-marked-requires
 is-marked-requires c κs = search needs
 
 returns : tie.Need-returns
-returns c = step-unmarked (c .before .before .before .args .state) (c .before .before .before .args .bytes .now) (sym (c .before .is-marked .ensures) ∙ not-true _ (c .if1 .taken)) _
+returns c =
+    let args = c .before .before .before .args in
+    step-unmarked _ _ (args .state) (args .bytes .now) (sym (c .before .is-marked .ensures) ∙ not-true _ (c .if1 .taken)) _
 
 sub-rest : tie.Need-sub-rest
-sub-rest c = let h = four-left (c .before .before .before .args .bytes .now) (sym (c .before .is-marked .ensures) ∙ not-false _ (c .if1 .left)) in omega arith
+sub-rest c = let long = marked-long _ _ (sym (c .before .is-marked .ensures) ∙ not-false _ (c .if1 .left)) in omega arith
 
 part-rest-start : tie.Need-part-rest-start
-part-rest-start c = let h = four-left (c .before .before .before .args .bytes .now) (sym (c .before .is-marked .ensures) ∙ not-false _ (c .if1 .left)) in omega arith
+part-rest-start c = let long = marked-long _ _ (sym (c .before .is-marked .ensures) ∙ not-false _ (c .if1 .left)) in omega arith
 
 part-rest-end : tie.Need-part-rest-end
 part-rest-end c = search needs
 
 read-body-requires : tie.Need-read-body-requires
-read-body-requires c κs = two-left (c .before .before .before .before .args .state) (c .before .before .before .before .args .bytes .now) (sym (c .before .before .is-marked .ensures) ∙ not-false _ (c .before .if1 .left)) _ (part-marked (c .before .before .before .before .args .bytes .now))
+read-body-requires c κs =
+    let is-marked = c .before .before .is-marked in
+    let args = c .before .before .before .before .args in
+    let marked = sym (is-marked .ensures) ∙ not-false _ (c .before .if1 .left) in
+    two-left _ (args .edition .width) (args .state) _ marked _ (part-marked _ _ (args .bytes .now))
 
 returns-2 : tie.Need-returns-2
-returns-2 c = step-own (c .before .before .before .before .before .before .before .args .state) (c .before .before .before .before .before .before .before .args .bytes .now) (sym (c .before .before .before .before .before .is-marked .ensures) ∙ not-false _ (c .before .before .before .before .if1 .left)) _ (part-marked (c .before .before .before .before .before .before .before .args .bytes .now)) _ (c .before .before .read-body .ensures) (c .if2 .taken) _
+returns-2 c =
+    let is-marked = c .before .before .before .before .before .is-marked in
+    let if1 = c .before .before .before .before .if1 in
+    let args = c .before .before .before .before .before .before .before .args in
+    let read-body = c .before .before .read-body in
+    let marked = sym (is-marked .ensures) ∙ not-false _ (if1 .left) in
+    step-own _ _ (args .state) _ marked _ (part-marked _ _ (args .bytes .now)) _ (read-body .ensures) (c .if2 .taken) _
 
 slice-aggregate-position-of : tie.Need-slice-aggregate-position-of
-slice-aggregate-position-of c = sym (length-take _ _ ∙ least _ _ (step-code-room (c .before .before .before .before .before .before .before .before .args .state) (c .before .before .before .before .before .before .before .before .args .bytes .now) (sym (c .before .before .before .before .before .before .is-marked .ensures) ∙ not-false _ (c .before .before .before .before .before .if1 .left)) _ (part-marked (c .before .before .before .before .before .before .before .before .args .bytes .now)) _ (c .before .before .before .read-body .ensures) (c .before .if2 .left)))
+slice-aggregate-position-of c =
+    let is-marked = c .before .before .before .before .before .before .is-marked in
+    let if1 = c .before .before .before .before .before .if1 in
+    let args = c .before .before .before .before .before .before .before .before .args in
+    let read-body = c .before .before .before .read-body in
+    let marked = sym (is-marked .ensures) ∙ not-false _ (if1 .left) in
+    sym (length-take _ _ ∙ least _ _ (step-code-room _ _ (args .state) _ marked _ (part-marked _ _ (args .bytes .now)) _ (read-body .ensures) (c .before .if2 .left)))
 
 position-of-requires : tie.Need-position-of-requires
-position-of-requires c κs = step-code (c .before .before .before .before .before .before .before .before .args .state) (c .before .before .before .before .before .before .before .before .args .bytes .now) (sym (c .before .before .before .before .before .before .is-marked .ensures) ∙ not-false _ (c .before .before .before .before .before .if1 .left)) _ (part-marked (c .before .before .before .before .before .before .before .before .args .bytes .now)) _ (c .before .before .before .read-body .ensures) (c .before .if2 .left)
-
-shared-slice-read-take-leaf : tie.Need-shared-slice-read-take-leaf
-shared-slice-read-take-leaf c = let h = two-left (c .before .before .before .before .before .before .before .before .before .before .args .state) (c .before .before .before .before .before .before .before .before .before .before .args .bytes .now) (sym (c .before .before .before .before .before .before .before .before .is-marked .ensures) ∙ not-false _ (c .before .before .before .before .before .before .before .if1 .left)) _ (part-marked (c .before .before .before .before .before .before .before .before .before .before .args .bytes .now)) in omega arith
+position-of-requires c κs =
+    let is-marked = c .before .before .before .before .before .before .is-marked in
+    let if1 = c .before .before .before .before .before .if1 in
+    let args = c .before .before .before .before .before .before .before .before .args in
+    let read-body = c .before .before .before .read-body in
+    let marked = sym (is-marked .ensures) ∙ not-false _ (if1 .left) in
+    step-code _ _ (args .state) _ marked _ (part-marked _ _ (args .bytes .now)) _ (read-body .ensures) (c .before .if2 .left)
 
 add-take-leaf : tie.Need-add-take-leaf
-add-take-leaf c = let h = step-long (c .before .before .before .before .before .before .before .before .before .before .before .args .state) (c .before .before .before .before .before .before .before .before .before .before .before .args .bytes .now) (sym (c .before .before .before .before .before .before .before .before .before .is-marked .ensures) ∙ not-false _ (c .before .before .before .before .before .before .before .before .if1 .left)) _ (part-marked (c .before .before .before .before .before .before .before .before .before .before .before .args .bytes .now)) _ (c .before .before .before .before .before .before .read-body .ensures) (c .before .before .before .before .if2 .left) in omega (arith, h, length-rest (c .before .before .before .before .before .before .before .before .before .before .before .args .bytes .now), c .before .before .before .before .before .before .before .before .before .before .before .pre .room)
+add-take-leaf c =
+    let is-marked = c .before .before .before .before .before .before .before .before .is-marked in
+    let if1 = c .before .before .before .before .before .before .before .if1 in
+    let args = c .before .before .before .before .before .before .before .before .before .before .args in
+    let read-body = c .before .before .before .before .before .read-body in
+    let if2 = c .before .before .before .if2 in
+    let marked = sym (is-marked .ensures) ∙ not-false _ (if1 .left) in
+    let long = step-long _ _ (args .state) _ marked _ (part-marked _ _ (args .bytes .now)) _ (read-body .ensures) (if2 .left) in
+    omega (arith, ap length (part-all (args .bytes .now) 2), length-drop 2 (args .bytes .now), marked-long _ _ marked)
 
 take-leaf-requires : tie.Need-take-leaf-requires
-unfolding dimensionOf
-take-leaf-requires c κs = step-ready (c .before .before .before .before .before .before .before .before .before .before .before .args .state) (c .before .before .before .before .before .before .before .before .before .before .before .args .bytes .now) (sym (c .before .before .before .before .before .before .before .before .before .is-marked .ensures) ∙ not-false _ (c .before .before .before .before .before .before .before .before .if1 .left)) _ (part-marked (c .before .before .before .before .before .before .before .before .before .before .before .args .bytes .now)) _ (c .before .before .before .before .before .before .read-body .ensures) (c .before .before .before .before .if2 .left) _ (c .before .before .position-of .ensures) (c .before .before .before .before .before .before .before .before .before .before .before .pre) (let h = four-left (c .before .before .before .before .before .before .before .before .before .before .before .args .bytes .now) (sym (c .before .before .before .before .before .before .before .before .before .is-marked .ensures) ∙ not-false _ (c .before .before .before .before .before .before .before .before .if1 .left)) in omega (arith, length-rest (c .before .before .before .before .before .before .before .before .before .before .before .args .bytes .now))) _ refl
+take-leaf-requires c κs =
+    let is-marked = c .before .before .before .before .before .before .before .before .is-marked in
+    let if1 = c .before .before .before .before .before .before .before .if1 in
+    let args = c .before .before .before .before .before .before .before .before .before .before .args in
+    let read-body = c .before .before .before .before .before .read-body in
+    let if2 = c .before .before .before .if2 in
+    let pre = c .before .before .before .before .before .before .before .before .before .before .pre in
+    let marked = sym (is-marked .ensures) ∙ not-false _ (if1 .left) in
+    let rest = part-marked _ _ (args .bytes .now) in
+    step-ready _ _ (args .state) _ marked _ rest _ (read-body .ensures) (if2 .left) _ (c .before .position-of .ensures) (pre) (omega (arith, ap length (part-all (args .bytes .now) 2), length-drop 2 (args .bytes .now), marked-long _ _ marked)) _ refl
 
 returns-3 : tie.Need-returns-3
-unfolding dimensionOf
-returns-3 c = step-read (c .before .before .before .before .before .before .before .before .before .before .before .before .args .state) (c .before .before .before .before .before .before .before .before .before .before .before .before .args .bytes .now) (sym (c .before .before .before .before .before .before .before .before .before .before .is-marked .ensures) ∙ not-false _ (c .before .before .before .before .before .before .before .before .before .if1 .left)) _ (part-marked (c .before .before .before .before .before .before .before .before .before .before .before .before .args .bytes .now)) _ (c .before .before .before .before .before .before .before .read-body .ensures) (c .before .before .before .before .before .if2 .left) _ (c .before .before .before .position-of .ensures) _ refl (c .take-leaf .ensures)
+returns-3 c =
+    let is-marked = c .before .before .before .before .before .before .before .before .before .is-marked in
+    let if1 = c .before .before .before .before .before .before .before .before .if1 in
+    let args = c .before .before .before .before .before .before .before .before .before .before .before .args in
+    let read-body = c .before .before .before .before .before .before .read-body in
+    let if2 = c .before .before .before .before .if2 in
+    let position-of = c .before .before .position-of in
+    let marked = sym (is-marked .ensures) ∙ not-false _ (if1 .left) in
+    step-read _ _ (args .state) _ marked _ (part-marked _ _ (args .bytes .now)) _ (read-body .ensures) (if2 .left) _ (position-of .ensures) _ refl (c .take-leaf .ensures)
 
 pub step-spec : {M : Type 1} → statement M
 step-spec =
@@ -65,7 +107,6 @@ step-spec =
     returns-2
     slice-aggregate-position-of
     position-of-requires
-    shared-slice-read-take-leaf
     add-take-leaf
     take-leaf-requires
     returns-3)

@@ -9,12 +9,12 @@ use native.Mathlib.Decide.{decLt}
 use native.Mathlib.Nat.{zero-add}
 use lib.ListN.{length, take, drop, length-append, length-drop, length-take, take-append-drop, drop-of-length-le}
 use lib.Seq.{drop-drop}
-use Rattle.dimension.specs.Sizes.{codeLength}
 use Rattle.bisection.specs.Refusals.{done}
 use Rattle.bisection.specs.Codes.{codeOf}
+use Rattle.codes.specs.Fronts.Laws.{front-two}
 use Rattle.sheets.specs.declared.SheetAnswer.{SheetAnswer}
 use Rattle.sheets.specs.Forests.{Cell}
-use Rattle.sheets.specs.Sheets.{Records, none, more, GoodSheet, Begins, bodyLength, recordLength, recordRefusal, Read, start, next, told, Answers, good, record-refused, not-next, ended-early, SheetIs, sheetMark, sampleWidth}
+use Rattle.sheets.specs.Sheets.{Records, none, more, GoodSheet, Begins, behindMark, bodyLength, recordLength, recordRefusal, Read, start, next, told, Checks, good, record-refused, not-next, ended-early, SheetIs, sheetMark, sampleWidth}
 use Rattle.sheets.specs.Theorems.Listing.{GoodCell, recordOf, IsRecord, record-read, record-passes, record-rest, two-behind, Listed, listed-empty, Cut, cut, CellsIn, cells-none, cells-more, records-listed, leaves-cells}
 
 module _ (mark : List ℕ) (width : ℕ) where
@@ -26,7 +26,7 @@ module _ (mark : List ℕ) (width : ℕ) where
       r = record-read mark width bs e
 
       few : 2 ≤ recordLength mark width bs
-      few = unfold recordLength bodyLength codeLength in omega arith
+      few = unfold recordLength bodyLength in omega (arith, front-two (behindMark mark bs))
 
   module _ (sheet : List ℕ) where
     pub read-inside : {at n : ℕ} → Read mark width sheet at n → at ≤ length sheet
@@ -110,23 +110,23 @@ module _ (mark : List ℕ) (width : ℕ) where
         go (no h) (no q) = let e : n ≡ n′ = omega arith in (read-same e (s .read) (s′ .read), e)
 
     -- any two answers are equal
-    pub answers-same : {r r′ : SheetAnswer} → Answers mark width sheet r → Answers mark width sheet r′ → r ≡ r′
-    answers-same (good g e) (good g′ e′) = e ∙ ap (told 0 0) (stops-same (at-end (good-read g) refl) (at-end (good-read g′) refl) .1) ∙ sym e′
-    answers-same (good g e) (record-refused r h x e′) = let o = stops-same (at-end (good-read g) refl) (record { read = r; ends = λ y b. x y }) .0 in absurd (omega arith)
-    answers-same (good g e) (not-next r h x b e′) = let o = stops-same (at-end (good-read g) refl) (record { read = r; ends = λ y c. b c }) .0 in absurd (omega arith)
-    answers-same (good {n = n} g e) (ended-early r h x e′) = absurd (x n g)
-    answers-same (record-refused r h x e′) (good g e) = let o = stops-same (at-end (good-read g) refl) (record { read = r; ends = λ y b. x y }) .0 in absurd (omega arith)
-    answers-same (record-refused r h x e) (record-refused r′ h′ x′ e′) = e ∙ ap (λ (a : ℕ). told (recordRefusal mark width (drop a sheet)) a 0) (stops-same (record { read = r; ends = λ y b. x y }) (record { read = r′; ends = λ y b. x′ y }) .0) ∙ sym e′
-    answers-same (record-refused r h x e) (not-next r′ h′ x′ b e′) = absurd (x (ap (λ (a : ℕ). recordRefusal mark width (drop a sheet)) (stops-same (record { read = r; ends = λ y c. x y }) (record { read = r′; ends = λ y c. b c }) .0) ∙ x′))
-    answers-same (record-refused r h x e) (ended-early r′ h′ x′ e′) = let o = stops-same (record { read = r; ends = λ y b. x y }) (at-end r′ h′) .0 in absurd (omega arith)
-    answers-same (not-next r h x b e′) (good g e) = let o = stops-same (at-end (good-read g) refl) (record { read = r; ends = λ y c. b c }) .0 in absurd (omega arith)
-    answers-same (not-next r′ h′ x′ b e′) (record-refused r h x e) = absurd (x (ap (λ (a : ℕ). recordRefusal mark width (drop a sheet)) (stops-same (record { read = r; ends = λ y c. x y }) (record { read = r′; ends = λ y c. b c }) .0) ∙ x′))
-    answers-same (not-next r h x b e) (not-next r′ h′ x′ b′ e′) = e ∙ ap (λ (a : ℕ). told 14 a 0) (stops-same (record { read = r; ends = λ y c. b c }) (record { read = r′; ends = λ y c. b′ c }) .0) ∙ sym e′
-    answers-same (not-next r h x b e) (ended-early r′ h′ x′ e′) = let o = stops-same (record { read = r; ends = λ y c. b c }) (at-end r′ h′) .0 in absurd (omega arith)
-    answers-same (ended-early r h x e′) (good {n = n} g e) = absurd (x n g)
-    answers-same (ended-early r′ h′ x′ e′) (record-refused r h x e) = let o = stops-same (record { read = r; ends = λ y b. x y }) (at-end r′ h′) .0 in absurd (omega arith)
-    answers-same (ended-early r′ h′ x′ e′) (not-next r h x b e) = let o = stops-same (record { read = r; ends = λ y c. b c }) (at-end r′ h′) .0 in absurd (omega arith)
-    answers-same (ended-early r h x e) (ended-early r′ h′ x′ e′) = e ∙ ap (λ (a : ℕ). told 14 a 0) (stops-same (at-end r h) (at-end r′ h′) .0) ∙ sym e′
+    pub checks-same : {r r′ : SheetAnswer} → Checks mark width sheet r → Checks mark width sheet r′ → r ≡ r′
+    checks-same (good g e) (good g′ e′) = e ∙ ap (told 0 0) (stops-same (at-end (good-read g) refl) (at-end (good-read g′) refl) .1) ∙ sym e′
+    checks-same (good g e) (record-refused r h x e′) = let o = stops-same (at-end (good-read g) refl) (record { read = r; ends = λ y b. x y }) .0 in absurd (omega arith)
+    checks-same (good g e) (not-next r h x b e′) = let o = stops-same (at-end (good-read g) refl) (record { read = r; ends = λ y c. b c }) .0 in absurd (omega arith)
+    checks-same (good {n = n} g e) (ended-early r h x e′) = absurd (x n g)
+    checks-same (record-refused r h x e′) (good g e) = let o = stops-same (at-end (good-read g) refl) (record { read = r; ends = λ y b. x y }) .0 in absurd (omega arith)
+    checks-same (record-refused r h x e) (record-refused r′ h′ x′ e′) = e ∙ ap (λ (a : ℕ). told (recordRefusal mark width (drop a sheet)) a 0) (stops-same (record { read = r; ends = λ y b. x y }) (record { read = r′; ends = λ y b. x′ y }) .0) ∙ sym e′
+    checks-same (record-refused r h x e) (not-next r′ h′ x′ b e′) = absurd (x (ap (λ (a : ℕ). recordRefusal mark width (drop a sheet)) (stops-same (record { read = r; ends = λ y c. x y }) (record { read = r′; ends = λ y c. b c }) .0) ∙ x′))
+    checks-same (record-refused r h x e) (ended-early r′ h′ x′ e′) = let o = stops-same (record { read = r; ends = λ y b. x y }) (at-end r′ h′) .0 in absurd (omega arith)
+    checks-same (not-next r h x b e′) (good g e) = let o = stops-same (at-end (good-read g) refl) (record { read = r; ends = λ y c. b c }) .0 in absurd (omega arith)
+    checks-same (not-next r′ h′ x′ b e′) (record-refused r h x e) = absurd (x (ap (λ (a : ℕ). recordRefusal mark width (drop a sheet)) (stops-same (record { read = r; ends = λ y c. x y }) (record { read = r′; ends = λ y c. b c }) .0) ∙ x′))
+    checks-same (not-next r h x b e) (not-next r′ h′ x′ b′ e′) = e ∙ ap (λ (a : ℕ). told 14 a 0) (stops-same (record { read = r; ends = λ y c. b c }) (record { read = r′; ends = λ y c. b′ c }) .0) ∙ sym e′
+    checks-same (not-next r h x b e) (ended-early r′ h′ x′ e′) = let o = stops-same (record { read = r; ends = λ y c. b c }) (at-end r′ h′) .0 in absurd (omega arith)
+    checks-same (ended-early r h x e′) (good {n = n} g e) = absurd (x n g)
+    checks-same (ended-early r′ h′ x′ e′) (record-refused r h x e) = let o = stops-same (record { read = r; ends = λ y b. x y }) (at-end r′ h′) .0 in absurd (omega arith)
+    checks-same (ended-early r′ h′ x′ e′) (not-next r h x b e) = let o = stops-same (record { read = r; ends = λ y c. b c }) (at-end r′ h′) .0 in absurd (omega arith)
+    checks-same (ended-early r h x e) (ended-early r′ h′ x′ e′) = e ∙ ap (λ (a : ℕ). told 14 a 0) (stops-same (at-end r h) (at-end r′ h′) .0) ∙ sym e′
 
     -- the leaves of a good sheet are determined by its bytes
     pub good-cells : {m m′ : ℕ} (g : GoodSheet mark width sheet m) (g′ : GoodSheet mark width sheet m′) → g .cells ≡ g′ .cells
@@ -140,4 +140,4 @@ module _ (mark : List ℕ) (width : ℕ) where
 
 -- the contract of the sheet check determines its answer
 pub sheet-determined : (sheet : List ℕ) (r r′ : SheetAnswer) → SheetIs sheet r → SheetIs sheet r′ → r ≡ r′
-sheet-determined sheet r r′ a b = answers-same sheetMark sampleWidth sheet a b
+sheet-determined sheet r r′ a b = checks-same sheetMark sampleWidth sheet a b

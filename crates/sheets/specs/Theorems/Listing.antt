@@ -10,16 +10,19 @@ use lib.Seq.{drop-at, drop-drop}
 use borrow.Author.Tests.{leb-true, le-leb}
 use Rattle.dimension.specs.Sizes.{isDimension, greatestDepth}
 use Rattle.bisection.specs.Roots.{GoodRoot, GoodPath, roots}
-use Rattle.bisection.specs.Codes.{codeOf, IsCodeOf, dimensionOf}
-use Rattle.bisection.specs.Refusals.{done, need, _then_, codeRefusal}
-use Rattle.bisection.specs.Theorems.Checked.{then-done, done-then, need-done, done-need, both, and-both}
-use Rattle.bisection.specs.Theorems.CodePaths.{rootOf, pathOf, code-path, code-passes, one-path, dimension-of-code, length-root}
+use Rattle.bisection.specs.Codes.{codeOf, IsCodeOf}
+use Rattle.bisection.specs.Refusals.{done, codeRefusal}
+use Rattle.bisection.specs.Theorems.Checked.{both, and-both}
+use Rattle.bisection.specs.Theorems.Ladders.{first-is, all-hold, holds, past, held-at}
+use Rattle.bisection.specs.Theorems.CodePaths.{rootOf, pathOf, code-path, code-passes, one-path}
+use Rattle.codes.specs.Fronts.{frontDimension, frontCode}
+use Rattle.codes.specs.Fronts.Laws.{code-two, front-root}
 use Rattle.positions.specs.RootNumbers.{roots-good, roots-length}
 use Rattle.sheets.specs.Forests.{Cell, cell, Within, within-none, within-more, Leaves}
-use Rattle.sheets.specs.Sheets.{refusedRecord, beginsWith, behindMark, codeIn, bodyLength, recordLength, unmarkedRefusal, recordRefusal, Records, none, more}
+use Rattle.sheets.specs.Sheets.{beginsWith, behindMark, isMarked, bodyLength, recordLength, unmarkedRefusal, recordRefusal, Records, none, more}
 use Rattle.sheets.specs.Theorems.Frontier.{State, state, advance, zeros, steps, Follows, end, leaf, good-follows}
 use Rattle.sheets.specs.Theorems.Line.{steps-good}
-use Rattle.sheets.specs.Theorems.Reading.{begins-is, is-begins, Passed, passed, code-parts, code-in, body-length, unmarked-passes, rest-behind}
+use Rattle.sheets.specs.Theorems.Reading.{begins-is, is-begins, Passed, passed, code-in, unmarked-passes, rest-behind}
 
 -- a cell with a good root and a good path
 pub record GoodCell (c : Cell) : Type 0 where
@@ -40,7 +43,7 @@ recordOf mark c samples rest = mark ++ (codeOf (c .root) (c .path) ++ (samples +
 pub record IsRecord (mark : List ℕ) (width : ℕ) (bs : List ℕ) : Type 0 where
   pub of : Cell
   pub good : GoodCell of
-  pub code-is : codeIn (behindMark mark bs) ≡ codeOf (of .root) (of .path)
+  pub code-is : frontCode (behindMark mark bs) ≡ codeOf (of .root) (of .path)
   pub samples : List ℕ
   pub size : length samples ≡ width * suc (length (of .root))
   pub is : bs ≡ recordOf mark of samples (drop (recordLength mark width bs) bs)
@@ -48,22 +51,19 @@ pub record IsRecord (mark : List ℕ) (width : ℕ) (bs : List ℕ) : Type 0 whe
 
 module _ (mark : List ℕ) (width : ℕ) where
   pub record-read : (bs : List ℕ) → recordRefusal mark width bs ≡ done → IsRecord mark width bs
-  unfolding recordRefusal
+  unfolding recordRefusal isMarked
   record-read bs e = record {
     of = cell (rootOf code) (pathOf code);
     good = record { good-root = c .good-root; good-path = c .good-path };
     code-is = c .is;
     samples = p .samples;
-    size = p .size ∙ ap (λ (d : ℕ). width * suc d) (sym (p .dimension-is) ∙ sym (length-root c));
+    size = p .size ∙ ap (λ (d : ℕ). width * suc d) (sym (p .dimension-is) ∙ front-root c);
     is = unfold behindMark recordLength in (marked ∙ ap (λ (l : List ℕ). mark ++ l) (p .is ∙ ap (λ (l : List ℕ). l ++ (p .samples ++ drop (bodyLength width (drop (length mark) bs)) (drop (length mark) bs))) (c .is) ∙ ap (λ (l : List ℕ). codeOf (rootOf code) (pathOf code) ++ (p .samples ++ l)) (drop-drop (bodyLength width (drop (length mark) bs)) (length mark) bs)));
     inside = unfold recordLength behindMark in omega (arith, p .inside, length-drop (length mark) bs, marked-length);
   }
     where
-      w : (need (beginsWith mark bs && leb 2 (length (behindMark mark bs))) refusedRecord ≡ 0) × (unmarkedRefusal width (behindMark mark bs) ≡ 0)
-      w = then-done _ _ e
-
       b : (beginsWith mark bs ≡ true) × (leb 2 (length (behindMark mark bs)) ≡ true)
-      b = both _ _ (need-done (beginsWith mark bs && leb 2 (length (behindMark mark bs))) refusedRecord (omega arith) (w .0))
+      b = both (beginsWith mark bs) (leb 2 (length (behindMark mark bs))) (held-at _ tt e 0)
 
       marked : bs ≡ mark ++ drop (length mark) bs
       marked = begins-is mark bs (b .0)
@@ -72,37 +72,38 @@ module _ (mark : List ℕ) (width : ℕ) where
       marked-length = ap length marked ∙ length-append mark (drop (length mark) bs)
 
       p : Passed width (behindMark mark bs)
-      p = passed width (behindMark mark bs) (w .1)
+      p = passed width (behindMark mark bs) (held-at _ tt e 1)
 
       code : List ℕ
-      code = codeIn (behindMark mark bs)
+      code = frontCode (behindMark mark bs)
 
-      c : IsCodeOf (codeIn (behindMark mark bs)) (rootOf (codeIn (behindMark mark bs))) (pathOf (codeIn (behindMark mark bs)))
-      c = code-path (codeIn (behindMark mark bs)) (p .code)
+      c : IsCodeOf (frontCode (behindMark mark bs)) (rootOf (frontCode (behindMark mark bs))) (pathOf (frontCode (behindMark mark bs)))
+      c = code-path (frontCode (behindMark mark bs)) (p .code)
 
   -- the record of a cell passes its own tests
   module _ (c : Cell) (g : GoodCell c) (samples rest : List ℕ) (size : length samples ≡ width * suc (length (c .root))) where
     abbrev it : List ℕ
     it = codeOf (c .root) (c .path)
 
-    size-as : length samples ≡ width * suc (dimensionOf (codeOf (c .root) (c .path)))
-    size-as = rw (dimension-of-code (c .root) (c .path)) size
+    size-as : length samples ≡ width * suc (frontDimension (codeOf (c .root) (c .path)))
+    size-as = rw (front-root (code-of-cell g)) size
 
     behind : behindMark mark (recordOf mark c samples rest) ≡ it ++ (samples ++ rest)
     unfolding behindMark
     behind = drop-at mark (it ++ (samples ++ rest)) (length mark) refl
 
     pub two-behind : 2 ≤ length (it ++ (samples ++ rest))
-    two-behind = omega (arith, code-parts it (passes-cell g) .two, length-append it (samples ++ rest))
+    two-behind = omega (arith, code-two it (passes-cell g), length-append it (samples ++ rest))
 
     pub record-passes : recordRefusal mark width (recordOf mark c samples rest) ≡ done
-    unfolding recordRefusal
-    record-passes = done-then (need (beginsWith mark (recordOf mark c samples rest) && leb 2 (length (behindMark mark (recordOf mark c samples rest)))) refusedRecord) (unmarkedRefusal width (behindMark mark (recordOf mark c samples rest)))
-        (done-need (beginsWith mark (recordOf mark c samples rest) && leb 2 (length (behindMark mark (recordOf mark c samples rest)))) refusedRecord (and-both (beginsWith mark (recordOf mark c samples rest)) (leb 2 (length (behindMark mark (recordOf mark c samples rest)))) (is-begins mark (it ++ (samples ++ rest))) (rw behind (le-leb 2 (length (it ++ (samples ++ rest))) two-behind))))
-        ∙ ap (unmarkedRefusal width) behind ∙ unmarked-passes width it samples rest (passes-cell g) size-as
+    unfolding recordRefusal isMarked
+    record-passes = first-is (holds (and-both (beginsWith mark (recordOf mark c samples rest)) (leb 2 (length (behindMark mark (recordOf mark c samples rest)))) (is-begins mark (it ++ (samples ++ rest))) two) (past (ap (unmarkedRefusal width) behind ∙ unmarked-passes width it samples rest (passes-cell g) size-as) all-hold))
+      where
+        two : leb 2 (length (behindMark mark (recordOf mark c samples rest))) ≡ true
+        two = rw behind (le-leb 2 (length (it ++ (samples ++ rest))) two-behind)
 
-    pub record-code : codeIn (behindMark mark (recordOf mark c samples rest)) ≡ it
-    record-code = ap codeIn behind ∙ code-in width it samples rest (passes-cell g) size-as
+    pub record-code : frontCode (behindMark mark (recordOf mark c samples rest)) ≡ it
+    record-code = ap frontCode behind ∙ code-in width it samples rest (passes-cell g) size-as
 
     pub record-rest : drop (recordLength mark width (recordOf mark c samples rest)) (recordOf mark c samples rest) ≡ rest
     unfolding recordLength
@@ -116,7 +117,7 @@ module _ (mark : List ℕ) (width : ℕ) where
   same-record c c′ g g′ s s′ r r′ z z′ e = (λ i. record { root = o .0 i; path = o .1 i }, sym (record-rest c g s r z) ∙ ap (λ (l : List ℕ). drop (recordLength mark width l) l) e ∙ record-rest c′ g′ s′ r′ z′)
     where
       codes : codeOf (c .root) (c .path) ≡ codeOf (c′ .root) (c′ .path)
-      codes = sym (record-code c g s r z) ∙ ap (λ (l : List ℕ). codeIn (behindMark mark l)) e ∙ record-code c′ g′ s′ r′ z′
+      codes = sym (record-code c g s r z) ∙ ap (λ (l : List ℕ). frontCode (behindMark mark l)) e ∙ record-code c′ g′ s′ r′ z′
 
       o : (c .root ≡ c′ .root) × (c .path ≡ c′ .path)
       o = one-path (code-of-cell g) (record { good-root = g′ .good-root; good-path = g′ .good-path; is = codes })
@@ -134,7 +135,7 @@ module _ (mark : List ℕ) (width : ℕ) where
   regroup a b c d e = simp append-assoc
 
   not-empty : (c : Cell) → GoodCell c → (samples rest : List ℕ) → [] ≡ recordOf mark c samples rest → ⊥
-  not-empty c g samples rest e = omega (arith, ap length e, length-append mark (codeOf (c .root) (c .path) ++ (samples ++ rest)), length-append (codeOf (c .root) (c .path)) (samples ++ rest), code-parts (codeOf (c .root) (c .path)) (passes-cell g) .two)
+  not-empty c g samples rest e = omega (arith, ap length e, length-append mark (codeOf (c .root) (c .path) ++ (samples ++ rest)), length-append (codeOf (c .root) (c .path)) (samples ++ rest), code-two (codeOf (c .root) (c .path)) (passes-cell g))
 
   pub listed-empty : {cs : List Cell} {s : List ℕ} → Listed cs s → s ≡ [] → cs ≡ []
   listed-empty listed-none e = refl

@@ -1,0 +1,59 @@
+-- `record_parts` meets its contract: the record is there, so its lengths fit.
+use mathlib.Core.Path.{_≡_, ap, subst}
+use mathlib.Core.List.{List}
+use Prim.Native.Nat.{ℕ, _+_}
+use native.Mathlib.Omega.{arith}
+use Rattle.codes.specs.Fronts.{HeadIs}
+use Rattle.sheets.specs.StepLaws.{marked-long, marked-two, parts-marked, parts-inside, parts-whole, parts-are, part-marked}
+use borrow.Author.Needs.{needs}
+use Rattle.sheets.proofs.record_parts.Statement.{statement}
+use Rattle.sheets.proofs.record_parts.Tie as tie
+
+sub-code-head : tie.Need-sub-code-head
+sub-code-head c = let long = marked-long _ _ (parts-marked _ _ _ (c .before .pre)) in omega arith
+
+part-code-head-start : tie.Need-part-code-head-start
+part-code-head-start c = let long = marked-long _ _ (parts-marked _ _ _ (c .before .pre)) in omega arith
+
+part-code-head-end : tie.Need-part-code-head-end
+part-code-head-end c = search needs
+
+code-head-requires : tie.Need-code-head-requires
+code-head-requires c κs =
+    let args = c .before .before .args in
+    let pre = c .before .before .pre in
+    rw (part-marked (args .edition .first) (args .edition .second) (args .bytes .now)) (marked-two _ _ (parts-marked _ _ _ (pre)))
+
+samples-length-requires : tie.Need-samples-length-requires
+samples-length-requires c κs = search needs
+
+add-t10 : tie.Need-add-t10
+add-t10 c =
+    let args = c .before .before .before .before .args in
+    let pre = c .before .before .before .before .pre in
+    let head = subst (λ (l : List ℕ). HeadIs l (c .before .code-head .result)) (part-marked (args .edition .first) (args .edition .second) (args .bytes .now)) (c .before .code-head .ensures) in omega (arith, c .samples-length .ensures .0, parts-whole _ _ _ (pre) _ head, parts-inside _ _ _ (pre))
+
+add-t11 : tie.Need-add-t11
+add-t11 c =
+    let args = c .before .before .before .before .args in
+    let pre = c .before .before .before .before .pre in
+    let head = subst (λ (l : List ℕ). HeadIs l (c .before .code-head .result)) (part-marked (args .edition .first) (args .edition .second) (args .bytes .now)) (c .before .code-head .ensures) in omega (arith, c .samples-length .ensures .0, parts-whole _ _ _ (pre) _ head, parts-inside _ _ _ (pre))
+
+returns : tie.Need-returns
+returns c =
+    let args = c .before .before .before .before .args in
+    let pre = c .before .before .before .before .pre in
+    let head = subst (λ (l : List ℕ). HeadIs l (c .before .code-head .result)) (part-marked (args .edition .first) (args .edition .second) (args .bytes .now)) (c .before .code-head .ensures) in parts-are _ _ _ (pre) _ head _ (ap (λ (n : ℕ). 2 + (c .before .code-head .result .length + n)) (c .samples-length .ensures .0))
+
+pub record-parts-spec : {M : Type 1} → statement M
+record-parts-spec =
+    tie.close
+    (tie.spec
+    sub-code-head
+    part-code-head-start
+    part-code-head-end
+    code-head-requires
+    samples-length-requires
+    add-t10
+    add-t11
+    returns)
