@@ -4,11 +4,13 @@ mod text; // text.rt: bytes, numbers and hex put into a lent buffer
 ghost use mathlib.Core.Path.{_≡_};
 ghost use Prim.Native.Nat.{_+_, _*_, _≤_, _<_};
 ghost use lib.ListN.{length, take};
-ghost use Rattle.sheets.specs.Sheets.{sheetMark, sampleWidth, GoodSheet};
+ghost use Rattle.sheets.specs.Sheets.{GoodSheet};
+ghost use Rattle.sheets.specs.Steps.{markOf};
 ghost use Rattle.listing.specs.Texts.{sheetLimit, refusedText, Lists};
 ghost use Rattle.listing.specs.Putting.{Puts};
 ghost use Rattle.listing.specs.Leaves.{PutsLeaves, PutsGood, RoomFor};
 use bisection::DONE;
+use sheets::Edition;
 
 // The most bytes of a sheet that is listed.
 pub const SHEET_LIMIT: usize = 65536;
@@ -32,31 +34,32 @@ fn put_refused(out: &mut [u8], refusal: u8, offset: usize) -> usize
 }
 
 // A line for each record of a good sheet.
-fn put_leaves(out: &mut [u8], from: usize, sheet: &[u8], records: usize) -> usize
-    requires { ⌜ GoodSheet sheetMark sampleWidth (now sheet) records × RoomFor (now sheet) from (now out) ⌝ }
-    ensures { λ r. ⌜ PutsLeaves (now (sheet .entry)) records from (now (out .entry)) r (now (out .exit)) ⌝ }
+fn put_leaves(edition: Edition, out: &mut [u8], from: usize, sheet: &[u8], records: usize) -> usize
+    requires { ⌜ GoodSheet (markOf edition) (edition .width) (now sheet) records × RoomFor (edition .width) (now sheet) from (now out) ⌝ }
+    ensures { λ r. ⌜ PutsLeaves (markOf edition) (edition .width) (now (sheet .entry)) records from (now (out .entry)) r (now (out .exit)) ⌝ }
 {
     let mut at = from;
     let mut offset: usize = 0;
     let mut number: usize = 0;
     while number < records {
-        let lengths = sheets::record_lengths(&sheet[offset..]);
+        let parts = sheets::record_parts(edition, &sheet[offset..]);
         let code = offset + sheets::MARK_LENGTH;
-        let end = code + lengths.code;
+        let end = code + parts.code;
         at = text::put_leaf(out, at, number, &sheet[code..end]);
-        offset += lengths.whole;
+        offset += parts.whole;
         number += 1;
     }
     at
 }
 
 // The listing of a good sheet.
-fn put_good(out: &mut [u8], sheet: &[u8], records: usize) -> usize
-    requires { ⌜ GoodSheet sheetMark sampleWidth (now sheet) records × RoomFor (now sheet) 32 (now out) ⌝ }
-    ensures { λ r. ⌜ PutsGood (now (sheet .entry)) records (now (out .entry)) r (now (out .exit)) ⌝ }
+fn put_good(edition: Edition, out: &mut [u8], sheet: &[u8], records: usize) -> usize
+    requires { ⌜ GoodSheet (markOf edition) (edition .width) (now sheet) records × RoomFor (edition .width) (now sheet) 32 (now out) ⌝ }
+    ensures { λ r. ⌜ PutsGood (markOf edition) (edition .width) (now (sheet .entry)) records (now (out .entry)) r (now (out .exit)) ⌝ }
 {
-    let at = text::put_line(out, 0, b"dim ", sheet[sheets::MARK_LENGTH] as usize);
-    let at = put_leaves(out, at, sheet, records);
+    let first = sheets::record_parts(edition, sheet);
+    let at = text::put_line(out, 0, b"dim ", common::size(first.dimension));
+    let at = put_leaves(edition, out, at, sheet, records);
     text::put_line(out, at, b"leaves ", records)
 }
 
@@ -72,5 +75,5 @@ pub fn list_sheet(sheet: &[u8], out: &mut [u8; TEXT_ROOM]) -> usize
     if answer.refusal != DONE {
         return put_refused(out, answer.refusal, answer.offset);
     }
-    put_good(out, sheet, answer.records)
+    put_good(sheets::first_edition(), out, sheet, answer.records)
 }

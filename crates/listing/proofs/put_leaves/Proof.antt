@@ -1,39 +1,50 @@
 -- `put_leaves` meets its contract. The loop keeps: the lines of the leaves that are left make the text whole.
-use mathlib.Core.Path.{_≡_, refl, sym, ap, _∙_, subst}
-use Prim.Native.Nat.{ℕ, suc, _+_, _-_, _*_, _^_, _≤_, _<_}
+use mathlib.Core.Path.{refl}
+use Prim.Native.Nat.{_-_}
 use native.Mathlib.Omega.{arith}
-use lib.ListN.{length, getD, take, drop, length-take}
-use Rattle.listing.specs.Leaves.{Listing-on, Line, on-start, on-line, on-end}
+use Rattle.sheets.specs.Steps.{markOf}
+use Rattle.listing.specs.Leaves.{Listing-on, on-start, on-line, on-end}
 use borrow.Author.Needs.{needs}
 use Rattle.listing.proofs.put_leaves.Statement.{statement}
 use Rattle.listing.proofs.put_leaves.Tie as tie
 
 abbrev Inv-loop : tie.InvT-loop
-Inv-loop out₀ from sheet records at₀ offset₀ number₀ out at offset number = Listing-on sheet records from out₀ at offset number out
+Inv-loop edition out₀ from sheet records at₀ offset₀ number₀ out at offset number = Listing-on (markOf edition) (edition .width) sheet records from out₀ at offset number out
 
 abbrev μ-loop : tie.MeasureT-loop
-μ-loop out₀ from sheet records at₀ offset₀ number₀ out at offset number = records - number
+μ-loop edition out₀ from sheet records at₀ offset₀ number₀ out at offset number = records - number
 
 loop-holds : tie.Need-loop-holds Inv-loop μ-loop
-loop-holds c = on-start (c .before .before .args .sheet .now) (c .before .before .args .records) (c .before .before .args .from) (c .before .before .args .out .now) (c .before .before .pre .0) (c .before .before .pre .1)
+loop-holds c =
+    let args = c .before .before .args in
+    let pre = c .before .before .pre in
+    on-start _ _ refl (args .sheet .now) (args .records) (args .from) (args .out .now) (pre .0) (pre .1)
 
-sub-record-lengths : tie.Need-sub-record-lengths Inv-loop μ-loop
-sub-record-lengths c = c .before .loop .inv .inside
+sub-record-parts : tie.Need-sub-record-parts Inv-loop μ-loop
+sub-record-parts c = c .before .loop .inv .inside
 
-part-record-lengths-start : tie.Need-part-record-lengths-start Inv-loop μ-loop
-part-record-lengths-start c = search needs
+part-record-parts-start : tie.Need-part-record-parts-start Inv-loop μ-loop
+part-record-parts-start c = search needs
 
-part-record-lengths-end : tie.Need-part-record-lengths-end Inv-loop μ-loop
-part-record-lengths-end c = search needs
+part-record-parts-end : tie.Need-part-record-parts-end Inv-loop μ-loop
+part-record-parts-end c = search needs
 
-record-lengths-requires : tie.Need-record-lengths-requires Inv-loop μ-loop
-record-lengths-requires c κs = on-line (c .before .before .loop .inv) (c .before .loop-test .taken) .passes
+record-parts-requires : tie.Need-record-parts-requires Inv-loop μ-loop
+record-parts-requires c κs =
+    let loop = c .before .before .loop in
+    on-line (loop .inv) (c .before .loop-test .taken) .passes
 
 add-code : tie.Need-add-code Inv-loop μ-loop
-add-code c = omega (arith, on-line (c .before .before .before .loop .inv) (c .before .before .loop-test .taken) .code-fits _ (c .record-lengths .ensures))
+add-code c =
+    let loop = c .before .before .before .loop in
+    let loop-test = c .before .before .loop-test in
+    omega (arith, on-line (loop .inv) (loop-test .taken) .code-fits _ (c .record-parts .ensures))
 
 add-end : tie.Need-add-end Inv-loop μ-loop
-add-end c = omega (arith, on-line (c .before .before .before .before .loop .inv) (c .before .before .before .loop-test .taken) .code-fits _ (c .before .record-lengths .ensures))
+add-end c =
+    let loop = c .before .before .before .before .loop in
+    let loop-test = c .before .before .before .loop-test in
+    omega (arith, on-line (loop .inv) (loop-test .taken) .code-fits _ (c .before .record-parts .ensures))
 
 sub-put-leaf : tie.Need-sub-put-leaf Inv-loop μ-loop
 sub-put-leaf c = omega arith
@@ -42,28 +53,49 @@ part-put-leaf-start : tie.Need-part-put-leaf-start Inv-loop μ-loop
 part-put-leaf-start c = search needs
 
 part-put-leaf-end : tie.Need-part-put-leaf-end Inv-loop μ-loop
-part-put-leaf-end c = omega (arith, on-line (c .before .before .before .before .before .loop .inv) (c .before .before .before .before .loop-test .taken) .code-fits _ (c .before .before .record-lengths .ensures))
+part-put-leaf-end c =
+    let loop = c .before .before .before .before .before .loop in
+    let loop-test = c .before .before .before .before .loop-test in
+    let record-parts = c .before .before .record-parts in
+    omega (arith, on-line (loop .inv) (loop-test .taken) .code-fits _ (record-parts .ensures))
 
 put-leaf-requires : tie.Need-put-leaf-requires Inv-loop μ-loop
-put-leaf-requires c κs = on-line (c .before .before .before .before .before .before .loop .inv) (c .before .before .before .before .before .loop-test .taken) .fits _ (c .before .before .before .record-lengths .ensures)
+put-leaf-requires c κs =
+    let loop = c .before .before .before .before .before .before .loop in
+    let loop-test = c .before .before .before .before .before .loop-test in
+    let record-parts = c .before .before .before .record-parts in
+    on-line (loop .inv) (loop-test .taken) .fits _ (record-parts .ensures)
 
 add-offset : tie.Need-add-offset Inv-loop μ-loop
-add-offset c = omega (arith, on-line (c .before .before .before .before .before .before .before .before .before .before .loop .inv) (c .before .before .before .before .before .before .before .before .before .loop-test .taken) .whole-fits _ (c .before .before .before .before .before .before .before .record-lengths .ensures))
+add-offset c =
+    let loop = c .before .before .before .before .before .before .before .before .before .before .loop in
+    let loop-test = c .before .before .before .before .before .before .before .before .before .loop-test in
+    let record-parts = c .before .before .before .before .before .before .before .record-parts in
+    omega (arith, on-line (loop .inv) (loop-test .taken) .whole-fits _ (record-parts .ensures))
 
 add-number : tie.Need-add-number Inv-loop μ-loop
 add-number c = search needs
 
 loop-less : tie.Need-loop-less Inv-loop μ-loop
-loop-less c = omega (arith, c .before .before .before .before .before .before .before .before .before .loop-test .taken)
+loop-less c =
+    let loop-test = c .before .before .before .before .before .before .before .before .before .loop-test in
+    omega (arith, loop-test .taken)
 
 loop-again : tie.Need-loop-again Inv-loop μ-loop
-loop-again c = on-line (c .before .before .before .before .before .before .before .before .before .before .loop .inv) (c .before .before .before .before .before .before .before .before .before .loop-test .taken) .next _ (c .before .before .before .before .before .before .before .record-lengths .ensures) (c .before .before .before .put-leaf .ensures)
+loop-again c =
+    let loop = c .before .before .before .before .before .before .before .before .before .before .loop in
+    let loop-test = c .before .before .before .before .before .before .before .before .before .loop-test in
+    let record-parts = c .before .before .before .before .before .before .before .record-parts in
+    let put-leaf = c .before .before .before .put-leaf in
+    on-line (loop .inv) (loop-test .taken) .next _ (record-parts .ensures) (put-leaf .ensures)
 
 same-length : tie.Need-same-length Inv-loop μ-loop
 same-length c = c .before .loop .inv .putting .size
 
 returns : tie.Need-returns Inv-loop μ-loop
-returns c = on-end (c .before .loop .inv) (omega (arith, c .loop-test .left)) (c .before .before .before .before .pre .1 .small)
+returns c =
+    let pre = c .before .before .before .before .pre in
+    on-end (c .before .loop .inv) refl (pre .1 .wide) (omega (arith, c .loop-test .left)) (pre .1 .small)
 
 pub put-leaves-spec : {M : Type 1} → statement M
 put-leaves-spec =
@@ -72,10 +104,10 @@ put-leaves-spec =
     Inv-loop
     μ-loop
     loop-holds
-    sub-record-lengths
-    part-record-lengths-start
-    part-record-lengths-end
-    record-lengths-requires
+    sub-record-parts
+    part-record-parts-start
+    part-record-parts-end
+    record-parts-requires
     add-code
     add-end
     sub-put-leaf
