@@ -1,0 +1,499 @@
+/*
+ * Tries reshmokhit.h: its constants, its answers' fields and its entries' types are held against a list written down
+ * here, and every entry is called with document 01's examples. Each answer's numbers and each lent cell are compared
+ * with what the document says; what differs is printed, and the exit status is then 1.
+ *
+ * It is C11 and C++11, so that the header is tried in both. What is expected comes from the document's text: the worked
+ * cells P1 to P9, the 24-byte sheet, the limits, the order of the refusals, and for a few more cells the rules of the
+ * bisection and of the code, followed by hand.
+ */
+#include "reshmokhit.h"
+#include "reshmokhit.h" /* the second time changes nothing */
+
+#include <assert.h>
+#include <stdio.h>
+#include <stdlib.h>
+#include <string.h>
+
+/* What the header declares. */
+
+static_assert(RMK_HALVINGS == 12, "the greatest depth is 12 times the dimension");
+static_assert(RMK_CUBE_SIDE == 4096, "the cube is 0 to 4096 on each axis");
+static_assert(RMK_LONGEST_ROOT == 4, "a root is d bytes, d at most 4");
+static_assert(RMK_LONGEST_PATH == 48, "one byte for each step, at most 12 times 4");
+static_assert(RMK_LONGEST_CODE == 18, "2 + d + L, at most 18");
+static_assert(RMK_LONGEST_POINTS == 40, "5 points of 4 coordinates of 2 bytes");
+
+static_assert(RMK_DONE == 0, "done");
+static_assert(RMK_REFUSED_DIMENSION == 1, "dimension is not 2, 3 or 4");
+static_assert(RMK_REFUSED_DEPTH == 2, "depth above 12d");
+static_assert(RMK_REFUSED_LENGTH == 3, "a code alone: under 2 bytes, or not 2+d+L bytes");
+static_assert(RMK_REFUSED_PERMUTATION == 4, "axis outside 1..d, or repeated");
+static_assert(RMK_REFUSED_ORTHANT == 5, "an orthant byte of 2^d or more");
+static_assert(RMK_REFUSED_SIGN == 6, "a sign that the box forbids");
+static_assert(RMK_REFUSED_STEP == 7, "facet above d, child above 1, or path byte above 1");
+static_assert(RMK_REFUSED_FACE == 8, "facet lies in a face of the cube");
+static_assert(RMK_REFUSED_ROOT == 9, "parent of a root");
+static_assert(RMK_REFUSED_DEEPEST == 10, "child at the greatest depth");
+static_assert(RMK_REFUSED_SHORT == 11, "a lent output is shorter than the answer");
+static_assert(RMK_REFUSED_POINT == 12, "point has not d coordinates, or one outside 0 to 4096");
+static_assert(RMK_REFUSED_RECORD == 13, "sheet: mark missing or wrong, or record cut short");
+static_assert(RMK_REFUSED_LEAF == 14, "sheet: another dimension, not the next leaf, or ended early");
+static_assert(RMK_REFUSED_INPUT == 15, "program only: input over 65,536 bytes");
+
+/* A field's type, by its address, and where it stands. */
+#define FIELD(answer, type, field, at) \
+    static inline type *answer##_##field(answer *whole) { return &whole->field; } \
+    static_assert(offsetof(answer, field) == (at), #answer " has " #field " elsewhere")
+
+FIELD(rmk_written, uint8_t, refusal, 0);
+FIELD(rmk_written, size_t, length, sizeof(size_t));
+static_assert(sizeof(rmk_written) == 2 * sizeof(size_t), "rmk_written has other fields");
+
+FIELD(rmk_path_written, uint8_t, refusal, 0);
+FIELD(rmk_path_written, size_t, axes, sizeof(size_t));
+FIELD(rmk_path_written, size_t, depth, 2 * sizeof(size_t));
+static_assert(sizeof(rmk_path_written) == 3 * sizeof(size_t), "rmk_path_written has other fields");
+
+FIELD(rmk_crossed, uint8_t, refusal, 0);
+FIELD(rmk_crossed, uint8_t, place, 1);
+FIELD(rmk_crossed, size_t, length, sizeof(size_t));
+static_assert(sizeof(rmk_crossed) == 2 * sizeof(size_t), "rmk_crossed has other fields");
+
+FIELD(rmk_sheet_answer, uint8_t, refusal, 0);
+FIELD(rmk_sheet_answer, size_t, offset, sizeof(size_t));
+FIELD(rmk_sheet_answer, size_t, records, 2 * sizeof(size_t));
+static_assert(sizeof(rmk_sheet_answer) == 3 * sizeof(size_t), "rmk_sheet_answer has other fields");
+
+/* A pointer of the expected type takes an entry of that type alone. */
+#define TYPE(entry, answer, ...) \
+    do { \
+        answer (*typed)(__VA_ARGS__) = entry; \
+        (void)typed; \
+    } while (0)
+
+static void entry_types(void)
+{
+    TYPE(rmk_code_check, uint8_t, const uint8_t *, size_t);
+    TYPE(rmk_path_to_code, rmk_written, const uint8_t *, size_t, const uint8_t *, size_t, uint8_t *, size_t);
+    TYPE(rmk_code_to_path, rmk_path_written, const uint8_t *, size_t, uint8_t *, size_t, uint8_t *, size_t);
+    TYPE(rmk_vertices, rmk_written, const uint8_t *, size_t, uint8_t *, size_t);
+    TYPE(rmk_child, rmk_written, const uint8_t *, size_t, uint8_t, uint8_t *, size_t);
+    TYPE(rmk_parent, rmk_written, const uint8_t *, size_t, uint8_t *, size_t);
+    TYPE(rmk_cross, rmk_crossed, const uint8_t *, size_t, uint8_t, uint8_t *, size_t);
+    TYPE(rmk_sheet_check, rmk_sheet_answer, const uint8_t *, size_t);
+}
+
+/* Byte strings and lent outputs. */
+
+/* More cells than any input or output here has, so that those past the lent ones are watched too. */
+#define ROOM 64
+/* A lent length with room for every answer. */
+#define AMPLE 56
+
+typedef struct {
+    uint8_t at[ROOM];
+    size_t length;
+} bytes;
+
+/* The numbers of a text, each in `width` bytes, low byte first. Any other text is a slip of this file. */
+static bytes read_numbers(const char *text, int base, size_t width)
+{
+    bytes read = {{0}, 0};
+    for (text += strspn(text, " "); *text != '\0'; text += strspn(text, " ")) {
+        char *end;
+        unsigned long number = strtoul(text, &end, base);
+        for (size_t i = 0; i < width && read.length < ROOM; i++, number /= 256)
+            read.at[read.length++] = (uint8_t)(number % 256);
+        if (end == text || number != 0 || read.length == ROOM)
+            abort();
+        text = end;
+    }
+    return read;
+}
+
+static bytes hex(const char *text)
+{
+    return read_numbers(text, 16, 1);
+}
+
+static bytes coordinates(const char *text)
+{
+    return read_numbers(text, 10, 2);
+}
+
+/* What a cell holds before a call: a value that is in no answer here, and another for each cell. */
+static uint8_t pattern(size_t cell)
+{
+    return (uint8_t)(0xa0 + cell);
+}
+
+/* An output of which the first `length` cells are lent. */
+static bytes lend(size_t length)
+{
+    bytes output;
+    output.length = length;
+    for (size_t i = 0; i < ROOM; i++)
+        output.at[i] = pattern(i);
+    return output;
+}
+
+/* The comparison. */
+
+static size_t answers, differences;
+static char call[256];
+
+/* Begins an answer: the call, for the report of a difference. */
+static void begin(const char *entry, const char *input, const char *more)
+{
+    snprintf(call, sizeof call, "%s of [%s] %s", entry, input, more);
+    answers++;
+}
+
+static void same_number(const char *name, size_t expected, size_t given)
+{
+    if (expected == given)
+        return;
+    printf("%s: %s is %zu, not %zu\n", call, name, given, expected);
+    differences++;
+}
+
+/* The expected bytes stand at the front; every other cell, lent or not, keeps its content. */
+static void same_cells(const char *name, const bytes *expected, const bytes *given)
+{
+    for (size_t i = 0; i < ROOM; i++) {
+        uint8_t cell = i < expected->length ? expected->at[i] : pattern(i);
+        if (cell == given->at[i])
+            continue;
+        printf("%s: cell %zu of %s is %02x, not %02x\n", call, i, name, given->at[i], cell);
+        differences++;
+    }
+}
+
+static const char *with_number(const char *name, size_t number, size_t lent)
+{
+    static char text[64];
+    snprintf(text, sizeof text, "%s %zu, lent %zu", name, number, lent);
+    return text;
+}
+
+static const char *with_lent(size_t lent)
+{
+    static char text[32];
+    snprintf(text, sizeof text, "lent %zu", lent);
+    return text;
+}
+
+/* One call of each entry. Where a refusal is expected, the expected bytes are empty. */
+
+static void code_check(const char *code_text, uint8_t refusal)
+{
+    bytes code = hex(code_text);
+    begin("code check", code_text, "");
+    same_number("refusal", refusal, rmk_code_check(code.at, code.length));
+}
+
+static void path_to_code(const char *root_text, const char *path_text, size_t lent, uint8_t refusal,
+                         const char *code_text)
+{
+    bytes root = hex(root_text), path = hex(path_text), expected = hex(code_text), code = lend(lent);
+    begin("path to code", root_text, path_text);
+    rmk_written answer = rmk_path_to_code(root.at, root.length, path.at, path.length, code.at, code.length);
+    same_number("refusal", refusal, answer.refusal);
+    same_number("length", expected.length, answer.length);
+    same_cells("code", &expected, &code);
+}
+
+static void code_to_path(const char *code_text, size_t root_lent, size_t path_lent, uint8_t refusal,
+                         const char *root_text, const char *path_text)
+{
+    bytes code = hex(code_text), expected_root = hex(root_text), expected_path = hex(path_text);
+    bytes root = lend(root_lent), path = lend(path_lent);
+    begin("code to path", code_text, with_number("root lent", root_lent, path_lent));
+    rmk_path_written answer =
+        rmk_code_to_path(code.at, code.length, root.at, root.length, path.at, path.length);
+    same_number("refusal", refusal, answer.refusal);
+    same_number("axes", expected_root.length, answer.axes);
+    same_number("depth", expected_path.length, answer.depth);
+    same_cells("root", &expected_root, &root);
+    same_cells("path", &expected_path, &path);
+}
+
+static void vertices(const char *code_text, size_t lent, uint8_t refusal, const char *points_text)
+{
+    bytes code = hex(code_text), expected = coordinates(points_text), points = lend(lent);
+    begin("vertices", code_text, with_lent(lent));
+    rmk_written answer = rmk_vertices(code.at, code.length, points.at, points.length);
+    same_number("refusal", refusal, answer.refusal);
+    same_number("length", expected.length, answer.length);
+    same_cells("points", &expected, &points);
+}
+
+static void child(const char *code_text, uint8_t which, size_t lent, uint8_t refusal, const char *child_text)
+{
+    bytes code = hex(code_text), expected = hex(child_text), out = lend(lent);
+    begin("child", code_text, with_number("which", which, lent));
+    rmk_written answer = rmk_child(code.at, code.length, which, out.at, out.length);
+    same_number("refusal", refusal, answer.refusal);
+    same_number("length", expected.length, answer.length);
+    same_cells("out", &expected, &out);
+}
+
+static void parent(const char *code_text, size_t lent, uint8_t refusal, const char *parent_text)
+{
+    bytes code = hex(code_text), expected = hex(parent_text), out = lend(lent);
+    begin("parent", code_text, with_lent(lent));
+    rmk_written answer = rmk_parent(code.at, code.length, out.at, out.length);
+    same_number("refusal", refusal, answer.refusal);
+    same_number("length", expected.length, answer.length);
+    same_cells("out", &expected, &out);
+}
+
+static void cross(const char *code_text, uint8_t facet, size_t lent, uint8_t refusal, const char *across_text,
+                  uint8_t place)
+{
+    bytes code = hex(code_text), expected = hex(across_text), out = lend(lent);
+    begin("crossing", code_text, with_number("facet", facet, lent));
+    rmk_crossed answer = rmk_cross(code.at, code.length, facet, out.at, out.length);
+    same_number("refusal", refusal, answer.refusal);
+    same_number("place", place, answer.place);
+    same_number("length", expected.length, answer.length);
+    same_cells("out", &expected, &out);
+}
+
+static void sheet_check(const char *sheet_text, uint8_t refusal, size_t offset, size_t records)
+{
+    bytes sheet = hex(sheet_text);
+    begin("sheet check", sheet_text, "");
+    rmk_sheet_answer answer = rmk_sheet_check(sheet.at, sheet.length);
+    same_number("refusal", refusal, answer.refusal);
+    same_number("offset", offset, answer.offset);
+    same_number("records", records, answer.records);
+}
+
+/* Document 01's examples. */
+
+#define P1 "02 00 01 02"
+#define P2 "02 01 02 81"
+#define P3 "02 02 81 02 01"
+#define P4 "02 04 01 02 01 00"
+#define P5 "03 01 02 03 81"
+#define P6_ACROSS "02 00 02 01"      /* also the root [+2 +1] */
+#define P7 "02 01 01 02"             /* P1's child 0, which keeps the signed permutation */
+#define P8_ACROSS_0 "02 02 01 02 00"
+#define P8_ACROSS_1 "02 02 02 81 01"
+#define P9_BAD_CHILD "02 01 81 02"
+#define P9_BAD_ROOT "02 00 01 82"
+#define P9_GOOD "02 01 01 82"        /* child 1 of the root [+2 +1] */
+#define P4_PARENT "02 03 81 02 01"   /* path 010: P3's child 0 */
+
+#define ROOT_3 "03 00 01 02 03"
+#define ROOT_4 "04 00 01 02 03 04"
+
+/* Twelve times child 0 on each axis: every sign stays plus, every orthant is the low side of every axis. */
+#define TWELVE "00 00 00 00 00 00 00 00 00 00 00 00"
+#define DEEPEST_2 "02 18 01 02 " TWELVE
+#define TOO_DEEP_2 "02 19 01 02 " TWELVE
+#define DEEPEST_4 "04 30 01 02 03 04 " TWELVE
+#define PATH_24 TWELVE " " TWELVE
+#define PATH_25 PATH_24 " 00"
+#define PATH_48 PATH_24 " " PATH_24
+
+static void try_code_check(void)
+{
+    const char *good[] = {P1, P2, P3, P4, P5, P6_ACROSS, P7, P8_ACROSS_0, P8_ACROSS_1, P9_GOOD,
+                          P4_PARENT, ROOT_3, ROOT_4, DEEPEST_2, DEEPEST_4};
+    for (size_t i = 0; i < sizeof good / sizeof good[0]; i++)
+        code_check(good[i], RMK_DONE);
+    code_check("", RMK_REFUSED_LENGTH);
+    code_check("02", RMK_REFUSED_LENGTH);
+    code_check("05", RMK_REFUSED_LENGTH); /* under 2 bytes comes before the dimension */
+    code_check("01 00 01", RMK_REFUSED_DIMENSION);
+    code_check("05 00 01 02 03 04 05", RMK_REFUSED_DIMENSION);
+    code_check("05 ff", RMK_REFUSED_DIMENSION);
+    code_check(TOO_DEEP_2, RMK_REFUSED_DEPTH);
+    code_check("02 ff", RMK_REFUSED_DEPTH);
+    code_check("02 00 01", RMK_REFUSED_LENGTH);
+    code_check("02 00 00", RMK_REFUSED_LENGTH); /* before the permutation */
+    code_check("02 00 01 02 00", RMK_REFUSED_LENGTH);
+    code_check("02 00 01 01", RMK_REFUSED_PERMUTATION);
+    code_check("02 00 00 01", RMK_REFUSED_PERMUTATION);
+    code_check("02 00 01 03", RMK_REFUSED_PERMUTATION);
+    code_check("02 02 01 01 04", RMK_REFUSED_PERMUTATION); /* before the orthant */
+    code_check("02 02 01 02 04", RMK_REFUSED_ORTHANT);
+    code_check("02 02 81 02 04", RMK_REFUSED_ORTHANT); /* before the sign */
+    code_check(P9_BAD_CHILD, RMK_REFUSED_SIGN);
+    code_check(P9_BAD_ROOT, RMK_REFUSED_SIGN);
+}
+
+static void try_path_to_code(void)
+{
+    path_to_code("01 02", "", AMPLE, RMK_DONE, P1);
+    path_to_code("01 02", "01", AMPLE, RMK_DONE, P2);
+    path_to_code("01 02", "00 01", AMPLE, RMK_DONE, P3);
+    path_to_code("01 02", "00 01 00 01", AMPLE, RMK_DONE, P4);
+    path_to_code("01 02 03", "01", AMPLE, RMK_DONE, P5);
+    path_to_code("02 01", "01", AMPLE, RMK_DONE, P9_GOOD);
+    path_to_code("01 02", PATH_24, 16, RMK_DONE, DEEPEST_2);
+    path_to_code("01 02 03 04", PATH_48, RMK_LONGEST_CODE, RMK_DONE, DEEPEST_4);
+    path_to_code("01", PATH_25, AMPLE, RMK_REFUSED_DIMENSION, "");
+    path_to_code("", "", AMPLE, RMK_REFUSED_DIMENSION, "");
+    path_to_code("01 02 03 04 05", "", AMPLE, RMK_REFUSED_DIMENSION, "");
+    path_to_code("01 02", PATH_25, AMPLE, RMK_REFUSED_DEPTH, "");
+    path_to_code("01 01", PATH_25, AMPLE, RMK_REFUSED_DEPTH, ""); /* before the permutation */
+    path_to_code("01 01", "", AMPLE, RMK_REFUSED_PERMUTATION, "");
+    path_to_code("01 03", "02", AMPLE, RMK_REFUSED_PERMUTATION, ""); /* before the path's bytes */
+    path_to_code("01 82", "", AMPLE, RMK_REFUSED_PERMUTATION, ""); /* a sign counts as outside */
+    path_to_code("01 02", "00 02", AMPLE, RMK_REFUSED_STEP, "");
+    path_to_code("01 02", "02", 0, RMK_REFUSED_STEP, ""); /* before the lent output */
+    path_to_code("01 02", "00 01", 5, RMK_DONE, P3);
+    path_to_code("01 02", "00 01", 4, RMK_REFUSED_SHORT, "");
+    path_to_code("01 02", "00 01", 0, RMK_REFUSED_SHORT, "");
+    path_to_code("01 02 03 04", PATH_48, RMK_LONGEST_CODE - 1, RMK_REFUSED_SHORT, "");
+}
+
+static void try_code_to_path(void)
+{
+    code_to_path(P1, AMPLE, AMPLE, RMK_DONE, "01 02", "");
+    code_to_path(P2, AMPLE, AMPLE, RMK_DONE, "01 02", "01");
+    code_to_path(P3, AMPLE, AMPLE, RMK_DONE, "01 02", "00 01");
+    code_to_path(P4, AMPLE, AMPLE, RMK_DONE, "01 02", "00 01 00 01");
+    code_to_path(P5, AMPLE, AMPLE, RMK_DONE, "01 02 03", "01");
+    code_to_path(P9_GOOD, AMPLE, AMPLE, RMK_DONE, "02 01", "01");
+    code_to_path(P1, 2, 0, RMK_DONE, "01 02", "");
+    code_to_path(P5, 3, 1, RMK_DONE, "01 02 03", "01");
+    code_to_path(DEEPEST_2, 2, 24, RMK_DONE, "01 02", PATH_24);
+    code_to_path(DEEPEST_4, RMK_LONGEST_ROOT, RMK_LONGEST_PATH, RMK_DONE, "01 02 03 04", PATH_48);
+    code_to_path(P5, 2, AMPLE, RMK_REFUSED_SHORT, "", "");
+    code_to_path(P5, 3, 0, RMK_REFUSED_SHORT, "", "");
+    code_to_path(P4, AMPLE, 3, RMK_REFUSED_SHORT, "", "");
+    code_to_path(P4, 1, 3, RMK_REFUSED_SHORT, "", "");
+    code_to_path(DEEPEST_4, RMK_LONGEST_ROOT, RMK_LONGEST_PATH - 1, RMK_REFUSED_SHORT, "", "");
+    code_to_path(DEEPEST_4, RMK_LONGEST_ROOT - 1, RMK_LONGEST_PATH, RMK_REFUSED_SHORT, "", "");
+    code_to_path(P9_BAD_CHILD, 0, 0, RMK_REFUSED_SIGN, "", ""); /* before the lent outputs */
+    code_to_path(TOO_DEEP_2, AMPLE, AMPLE, RMK_REFUSED_DEPTH, "", "");
+}
+
+static void try_vertices(void)
+{
+    vertices(P1, AMPLE, RMK_DONE, "0 0  4096 0  4096 4096");
+    vertices(P2, AMPLE, RMK_DONE, "4096 0  4096 4096  2048 2048");
+    vertices(P3, AMPLE, RMK_DONE, "4096 0  2048 0  2048 2048");
+    vertices(P4, AMPLE, RMK_DONE, "2048 0  3072 0  3072 1024");
+    /* v1, v2, v3 of the root, and the midpoint of its v0 and v3. */
+    vertices(P5, 24, RMK_DONE, "4096 0 0  4096 4096 0  4096 4096 4096  2048 2048 2048");
+    vertices(ROOT_4, RMK_LONGEST_POINTS, RMK_DONE,
+             "0 0 0 0  4096 0 0 0  4096 4096 0 0  4096 4096 4096 0  4096 4096 4096 4096");
+    vertices(DEEPEST_2, 12, RMK_DONE, "0 0  1 0  1 1");
+    vertices(P3, 11, RMK_REFUSED_SHORT, "");
+    vertices(P3, 0, RMK_REFUSED_SHORT, "");
+    vertices(P5, 23, RMK_REFUSED_SHORT, "");
+    vertices(ROOT_4, RMK_LONGEST_POINTS - 1, RMK_REFUSED_SHORT, "");
+    vertices(P9_BAD_ROOT, 0, RMK_REFUSED_SIGN, "");
+    vertices("02", AMPLE, RMK_REFUSED_LENGTH, "");
+}
+
+static void try_child(void)
+{
+    child(P1, 0, AMPLE, RMK_DONE, P7);
+    child(P1, 1, AMPLE, RMK_DONE, P2);
+    child(P7, 1, AMPLE, RMK_DONE, P3);
+    child(P3, 0, AMPLE, RMK_DONE, P4_PARENT);
+    child(P4_PARENT, 1, AMPLE, RMK_DONE, P4);
+    child(ROOT_3, 1, AMPLE, RMK_DONE, P5);
+    child(P6_ACROSS, 1, AMPLE, RMK_DONE, P9_GOOD);
+    child(P1, 2, AMPLE, RMK_REFUSED_STEP, "");
+    child(P1, 255, 0, RMK_REFUSED_STEP, "");
+    child(DEEPEST_2, 0, AMPLE, RMK_REFUSED_DEEPEST, "");
+    child(DEEPEST_2, 1, 0, RMK_REFUSED_DEEPEST, "");
+    child(DEEPEST_2, 2, AMPLE, RMK_REFUSED_STEP, ""); /* before the depth */
+    child(P7, 1, 5, RMK_DONE, P3); /* one byte more than P7 has: the new orthant */
+    child(P7, 1, 4, RMK_REFUSED_SHORT, "");
+    child(P1, 1, 0, RMK_REFUSED_SHORT, "");
+    child(P9_BAD_CHILD, 2, 0, RMK_REFUSED_SIGN, "");
+}
+
+static void try_parent(void)
+{
+    parent(P2, AMPLE, RMK_DONE, P1);
+    parent(P7, AMPLE, RMK_DONE, P1);
+    parent(P3, AMPLE, RMK_DONE, P7);
+    parent(P4, AMPLE, RMK_DONE, P4_PARENT);
+    parent(P4_PARENT, AMPLE, RMK_DONE, P3);
+    parent(P5, AMPLE, RMK_DONE, ROOT_3);
+    parent(P9_GOOD, AMPLE, RMK_DONE, P6_ACROSS);
+    parent(P1, AMPLE, RMK_REFUSED_ROOT, "");
+    parent(ROOT_4, 0, RMK_REFUSED_ROOT, "");
+    parent(P3, 4, RMK_DONE, P7); /* one byte less than P3 has */
+    parent(P3, 3, RMK_REFUSED_SHORT, "");
+    parent(P2, 0, RMK_REFUSED_SHORT, "");
+    parent(P9_BAD_ROOT, AMPLE, RMK_REFUSED_SIGN, "");
+}
+
+static void try_cross(void)
+{
+    cross(P1, 1, AMPLE, RMK_DONE, P6_ACROSS, 1);
+    cross(P1, 0, AMPLE, RMK_REFUSED_FACE, "", 0);
+    cross(P1, 2, AMPLE, RMK_REFUSED_FACE, "", 0);
+    cross(P7, 0, AMPLE, RMK_DONE, P2, 1);
+    cross(P2, 1, AMPLE, RMK_DONE, P7, 0);
+    cross(P3, 0, AMPLE, RMK_DONE, P8_ACROSS_0, 0);
+    cross(P3, 1, AMPLE, RMK_DONE, P8_ACROSS_1, 1);
+    cross(P3, 2, AMPLE, RMK_REFUSED_FACE, "", 0);
+    /* The roots [+1 +2 +3] and [+2 +1 +3] have all vertices in common but vertex 1. */
+    cross(ROOT_3, 1, 5, RMK_DONE, "03 00 02 01 03", 1);
+    cross(P1, 3, AMPLE, RMK_REFUSED_STEP, "", 0);
+    cross(P1, 255, 0, RMK_REFUSED_STEP, "", 0);
+    cross(P1, 0, 0, RMK_REFUSED_FACE, "", 0); /* before the lent output */
+    cross(P3, 1, 5, RMK_DONE, P8_ACROSS_1, 1);
+    cross(P3, 1, 4, RMK_REFUSED_SHORT, "", 0);
+    cross(P7, 0, 0, RMK_REFUSED_SHORT, "", 0);
+    cross(P9_BAD_CHILD, 3, 0, RMK_REFUSED_SIGN, "", 0);
+}
+
+#define RECORD_0 "43 4C 02 00 01 02 0A 00 14 00 32 00 "
+#define RECORD_1 "43 4C 02 00 02 01 0A 00 1E 00 32 00 "
+#define SAMPLES_2 " 0A 00 14 00 32 00 "
+#define SAMPLES_3 " 0A 00 14 00 32 00 64 00 "
+
+static void try_sheet_check(void)
+{
+    sheet_check(RECORD_0 RECORD_1, RMK_DONE, 0, 2);
+    sheet_check(RECORD_0, RMK_REFUSED_LEAF, 12, 0);
+    sheet_check("", RMK_REFUSED_LEAF, 0, 0);
+    /* The first root's two children, P7 and P2, in its place. */
+    sheet_check("43 4C " P7 SAMPLES_2 "43 4C " P2 SAMPLES_2 RECORD_1, RMK_DONE, 0, 3);
+    sheet_check("43 4C " P7 SAMPLES_2 RECORD_1, RMK_REFUSED_LEAF, 12, 0); /* a gap */
+    sheet_check(RECORD_0 "43 4C " P2 SAMPLES_2 RECORD_1, RMK_REFUSED_LEAF, 12, 0); /* an overlap */
+    sheet_check(RECORD_1 RECORD_0, RMK_REFUSED_LEAF, 0, 0);
+    sheet_check(RECORD_0 RECORD_0, RMK_REFUSED_LEAF, 12, 0);
+    sheet_check(RECORD_0 RECORD_1 RECORD_1, RMK_REFUSED_LEAF, 24, 0);
+    sheet_check(RECORD_0 "43 4C " ROOT_3 SAMPLES_3, RMK_REFUSED_LEAF, 12, 0); /* another dimension */
+    sheet_check("43 4D 02 00 01 02" SAMPLES_2 RECORD_1, RMK_REFUSED_RECORD, 0, 0);
+    sheet_check(RECORD_0 "00 4C 02 00 02 01" SAMPLES_2, RMK_REFUSED_RECORD, 12, 0);
+    sheet_check(RECORD_0 RECORD_1 "00", RMK_REFUSED_RECORD, 24, 0);
+    sheet_check(RECORD_0 "43 4C 05", RMK_REFUSED_RECORD, 12, 0); /* fewer than two bytes after the mark */
+    sheet_check(RECORD_0 "43 4C 05 FF", RMK_REFUSED_DIMENSION, 12, 0);
+    sheet_check(RECORD_0 "43 4C 02 19", RMK_REFUSED_DEPTH, 12, 0);
+    sheet_check(RECORD_0 "43 4C 02 00 02", RMK_REFUSED_RECORD, 12, 0); /* code cut */
+    sheet_check(RECORD_0 "43 4C 02 00 02 02", RMK_REFUSED_PERMUTATION, 12, 0);
+    sheet_check(RECORD_0 "43 4C 02 02 02 01 04", RMK_REFUSED_ORTHANT, 12, 0);
+    sheet_check(RECORD_0 "43 4C " P9_BAD_ROOT, RMK_REFUSED_SIGN, 12, 0);
+    sheet_check(RECORD_0 "43 4C 02 00 02 01 0A 00 1E 00 32", RMK_REFUSED_RECORD, 12, 0); /* samples cut */
+    sheet_check("43 4C 02 00 02 01 0A 00 1E 00 32", RMK_REFUSED_RECORD, 0, 0); /* before 14 */
+}
+
+int main(void)
+{
+    entry_types();
+    try_code_check();
+    try_path_to_code();
+    try_code_to_path();
+    try_vertices();
+    try_child();
+    try_parent();
+    try_cross();
+    try_sheet_check();
+    printf("every_entry: %zu answers compared, %zu differences\n", answers, differences);
+    return differences != 0;
+}
