@@ -51,25 +51,43 @@ pub fn good_sheet(random: &mut Random, d: usize, depth: usize) -> Vec<Leaf> {
     leaves
 }
 
-/// A good sheet of so many bytes: leaves are split at random until it has them, from the roots again where it
-/// gets past them.
-pub fn sheet_of_size(random: &mut Random, d: usize, size: usize) -> Vec<u8> {
-    loop {
-        let mut leaves: Vec<Leaf> = roots(d).iter().map(|root| leaf(random, root, &[])).collect();
-        let mut length: usize = leaves.iter().map(|leaf| leaf.record.len()).sum();
-        while length < size {
-            let at = random.below(leaves.len());
-            let Found { root, path } = leaves[at].cell.clone();
-            if path.len() < greatest_depth(d) {
-                let halves = [0, 1].map(|which| leaf(random, &root, &[&path[..], &[which]].concat()));
-                length += halves[0].record.len() + halves[1].record.len() - leaves[at].record.len();
-                leaves.splice(at..=at, halves);
-            }
-        }
-        if length == size {
-            return bytes(&leaves);
+/// The leaves of a good sheet, split at random until it has so many bytes or more. The last `kept` roots
+/// are not split.
+pub fn sheet_of_at_least(random: &mut Random, d: usize, size: usize, kept: usize) -> Vec<Leaf> {
+    let mut leaves: Vec<Leaf> = roots(d).iter().map(|root| leaf(random, root, &[])).collect();
+    let mut length: usize = leaves.iter().map(|leaf| leaf.record.len()).sum();
+    while length < size {
+        let at = random.below(leaves.len() - kept);
+        let Found { root, path } = leaves[at].cell.clone();
+        if path.len() < greatest_depth(d) {
+            let halves = [0, 1].map(|which| leaf(random, &root, &[&path[..], &[which]].concat()));
+            length += halves[0].record.len() + halves[1].record.len() - leaves[at].record.len();
+            leaves.splice(at..=at, halves);
         }
     }
+    leaves
+}
+
+/// The same of just so many bytes: from the roots again where it gets past them.
+pub fn sheet_of_size(random: &mut Random, d: usize, size: usize, kept: usize) -> Vec<Leaf> {
+    loop {
+        let leaves = sheet_of_at_least(random, d, size, kept);
+        if bytes(&leaves).len() == size {
+            return leaves;
+        }
+    }
+}
+
+/// The leaves of a good sheet that has under each root all cells of the depth given for it.
+pub fn sheet_of_depths(random: &mut Random, d: usize, depths: &[usize]) -> Vec<Leaf> {
+    let mut leaves = Vec::new();
+    for (root, depth) in roots(d).iter().zip(depths) {
+        for number in 0..1u32 << depth {
+            let path: Vec<u8> = (0..*depth).rev().map(|t| (number >> t & 1) as u8).collect();
+            leaves.push(leaf(random, root, &path));
+        }
+    }
+    leaves
 }
 
 pub fn bytes(leaves: &[Leaf]) -> Vec<u8> {

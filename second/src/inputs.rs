@@ -82,6 +82,17 @@ pub fn shaped_code(random: &mut Random, d: usize, depth: usize) -> Vec<u8> {
     code
 }
 
+/// Codes of a dimension and depth: good ones, damaged ones, and one of the right form alone.
+pub fn of_each_kind(random: &mut Random, d: usize, depth: usize) -> [Vec<u8>; 5] {
+    [
+        good_code(random, d, depth),
+        good_code(random, d, depth),
+        damaged_code(random, d, depth),
+        damaged_code(random, d, depth),
+        shaped_code(random, d, depth),
+    ]
+}
+
 /// Random bytes, the first ones often good.
 pub fn noise(random: &mut Random, length: usize) -> Vec<u8> {
     let mut bytes = random.bytes(length);
@@ -95,6 +106,36 @@ pub fn noise(random: &mut Random, length: usize) -> Vec<u8> {
     let small = if random.once_in(2) { length } else { 0 };
     bytes.iter_mut().take(small).skip(2).for_each(|byte| *byte = *byte % 6 + (*byte & 128));
     bytes
+}
+
+/// What a length loses that is kept in one byte or in two.
+pub const LOST: [usize; 2] = [256, 65_536];
+
+/// A byte string of a length, with a front: then zeros, the front again and again, or noise.
+pub fn longer(random: &mut Random, front: &[u8], length: usize) -> [Vec<u8>; 3] {
+    let again: &[u8] = if front.is_empty() { &[1] } else { front };
+    let repeated: Vec<u8> = again.iter().copied().cycle().take(length).collect();
+    let (mut zeros, mut noise) = (vec![0; length], random.bytes(length));
+    let kept = front.len().min(length);
+    zeros[..kept].copy_from_slice(&front[..kept]);
+    noise[..kept].copy_from_slice(&front[..kept]);
+    [zeros, repeated, noise]
+}
+
+/// Codes whose lengths are those of a good one, or nearly, where only one or two bytes of a length are
+/// kept. A wrong head is refused for itself, also where such a length looks too short for a head.
+pub fn narrowing_codes(random: &mut Random, d: usize, depth: usize) -> Vec<Vec<u8>> {
+    let code = good_code(random, d, depth);
+    let too_deep = [&[d as u8, greatest_depth(d) as u8 + 1], &code[2..]].concat();
+    let no_dimension = [&[MOST_AXES as u8 + 1], &code[1..]].concat();
+    let lows = [0, 1, 2, code.len() - 1, code.len(), code.len() + 1];
+    let mut codes = Vec::new();
+    for length in LOST.iter().flat_map(|lost| lows.map(|low| lost + low)) {
+        for front in [&code, &too_deep, &no_dimension] {
+            codes.extend(longer(random, front, length));
+        }
+    }
+    codes
 }
 
 /// Half good, half not; `n` sees to it that every kind meets every dimension and depth.

@@ -3,19 +3,19 @@
 use crate::random::Random;
 use std::fmt;
 
-/// More cells than any answer has, so that those past the lent ones can be watched too.
-const ROOM: usize = 96;
+/// Cells behind the lent ones, which are watched too. No answer is longer.
+const BEHIND: usize = 48;
 
 /// A lent output: its first `length` cells are lent, and all of them hold a random pattern at first.
 #[derive(Clone, PartialEq)]
 pub struct Lent {
-    cells: [u8; ROOM],
+    cells: Vec<u8>,
     length: usize,
 }
 
 impl Lent {
     pub fn new(random: &mut Random, length: usize) -> Lent {
-        let mut cells = [0; ROOM];
+        let mut cells = vec![0; (length + BEHIND).next_multiple_of(8)];
         for part in cells.chunks_mut(8) {
             part.copy_from_slice(&random.next().to_le_bytes());
         }
@@ -44,18 +44,23 @@ impl fmt::Debug for Lent {
     }
 }
 
+/// The bytes, or the first ones of a long string.
 fn hex(bytes: &[u8]) -> String {
-    bytes.iter().map(|byte| format!("{byte:02x} ")).collect()
+    let shown = bytes.iter().take(SHOWN).map(|byte| format!("{byte:02x} "));
+    shown.collect::<String>() + if bytes.len() > SHOWN { ".." } else { "" }
 }
+
+const SHOWN: usize = 96;
 
 /// How many inputs each entry was compared on.
 pub struct Tally {
     counts: Vec<(&'static str, usize)>,
+    told: usize,
 }
 
 impl Tally {
     pub fn new(entries: &[&'static str]) -> Tally {
-        Tally { counts: entries.iter().map(|entry| (*entry, 0)).collect() }
+        Tally { counts: entries.iter().map(|entry| (*entry, 0)).collect(), told: 0 }
     }
 
     /// Runs both programs on copies of the same lent outputs. Answers and all cells must be equal;
@@ -79,7 +84,20 @@ impl Tally {
         input.iter().for_each(|slice| println!("  {} bytes: {}", slice.len(), hex(slice)));
         println!("expected {:?}\n  {expected:?}", answers.0);
         println!("given    {:?}\n  {given:?}", answers.1);
+        for (expected, given) in expected.iter().zip(&given) {
+            let mut cells = expected.cells.iter().zip(&given.cells);
+            if let Some(cell) = cells.position(|(expected, given)| expected != given) {
+                println!("the first cell that differs is {cell} of {} lent", expected.length);
+            }
+        }
         std::process::exit(1);
+    }
+
+    /// Tells how many inputs a part of the run had.
+    pub fn part(&mut self, name: &str) {
+        let compared = self.counts.iter().map(|row| row.1).sum();
+        println!("{name}: {} inputs", compared - self.told);
+        self.told = compared;
     }
 
     /// The last line of a run without a difference.

@@ -3,8 +3,9 @@
 use second::answers::Crossed;
 use second::codes::Code;
 use second::crossing::{self, EveryCell};
+use second::entries::Reading;
 use second::finder::Finder;
-use second::inputs::{self, Options};
+use second::inputs::{self, Options, LOST};
 use second::lent::{Lent, Tally};
 use second::random::Random;
 use second::sizes::*;
@@ -28,9 +29,8 @@ struct Comparison {
 }
 
 impl Comparison {
-    fn cross(&mut self, code: &[u8], facet: u8, lent: Lent) {
-        let read = self.finder.read(code);
-        let second = |[out]: &mut [Lent; 1]| crossing::cross(&read, facet, out.open());
+    fn cross(&mut self, code: &[u8], read: &Reading, facet: u8, lent: Lent) {
+        let second = |[out]: &mut [Lent; 1]| crossing::cross(read, facet, out.open());
         let library = |[out]: &mut [Lent; 1]| library(code, facet, out.open());
         self.tally.compare("cross", &[code, &[facet]], [lent], second, library);
     }
@@ -42,7 +42,7 @@ impl Comparison {
         let facet = if self.random.once_in(16) { facet + above as u8 } else { facet };
         let facet = if self.random.once_in(64) { self.random.byte() } else { facet };
         let lent = Lent::near(&mut self.random, code.len().min(40));
-        self.cross(code, facet, lent);
+        self.cross(code, &self.finder.read(code), facet, lent);
     }
 
     /// Every facet of every cell, against the list of all cells of that depth and against the geometry.
@@ -61,16 +61,40 @@ impl Comparison {
         }
     }
 
-    /// A good code, every facet byte, and outputs of every length from 0 past the answer.
+    /// A good code, every facet and one above them, and outputs of every length from 0 past the answer.
     fn every_length(&mut self, d: usize, depth: usize) {
         let code = inputs::good_code(&mut self.random, d, depth);
-        for facet in 0..=255 {
-            let lent = Lent::near(&mut self.random, code.len());
-            self.cross(&code, facet, lent);
-        }
+        let read = self.finder.read(&code);
         for (facet, n) in (0..=d + 1).flat_map(|f| (0..=code.len() + PAST).map(move |n| (f, n))) {
             let lent = Lent::new(&mut self.random, n);
-            self.cross(&code, facet as u8, lent);
+            self.cross(&code, &read, facet as u8, lent);
+        }
+    }
+
+    /// Every value of `facet`, for good codes and others, with room enough and with too little.
+    fn every_value(&mut self, d: usize, depth: usize) {
+        for code in inputs::of_each_kind(&mut self.random, d, depth) {
+            let read = self.finder.read(&code);
+            let answer = code_length(d, depth);
+            for facet in 0..=255 {
+                let (more, less) = (self.random.below(PAST), 1 + self.random.below(answer));
+                let lents = [answer + more, answer - less].map(|n| Lent::new(&mut self.random, n));
+                lents.into_iter().for_each(|lent| self.cross(&code, &read, facet, lent));
+            }
+        }
+    }
+
+    /// Codes whose lengths seem good, and a good code with outputs that have room enough and seem not to,
+    /// where only one or two bytes of a length are kept.
+    fn narrowed(&mut self, d: usize, depth: usize) {
+        let codes = inputs::narrowing_codes(&mut self.random, d, depth);
+        codes.iter().for_each(|code| self.code(code));
+        let code = inputs::good_code(&mut self.random, d, depth);
+        let read = self.finder.read(&code);
+        let outputs = LOST.iter().flat_map(|lost| (0..=code.len()).map(move |low| lost + low));
+        for (n, facet) in outputs.flat_map(|n| (0..=d).map(move |facet| (n, facet))) {
+            let lent = Lent::new(&mut self.random, n);
+            self.cross(&code, &read, facet as u8, lent);
         }
     }
 
@@ -93,6 +117,11 @@ impl Comparison {
             self.every_length(d, depth);
             self.every_change(d, depth);
         }
+        self.tally.part("every facet of shallow cells, near length and change of a byte");
+        every_depth().iter().for_each(|(d, depth)| self.every_value(*d, *depth));
+        self.tally.part("every value of facet");
+        every_depth().iter().for_each(|(d, depth)| self.narrowed(*d, *depth));
+        self.tally.part("lengths past 255 and 65,535");
     }
 
     /// As many good codes as were asked for, of every dimension and depth in turn, and a bad one beside
@@ -108,6 +137,7 @@ impl Comparison {
                 self.code(&bad);
             }
         }
+        self.tally.part("random");
     }
 }
 

@@ -86,10 +86,10 @@ impl Comparison<'_> {
         self.same("an empty input", "refused 14 at 0\n", &of_parts(&[], 1));
         self.same("an input that can't be read", "refused 14 at 0\n", &of_file("target"));
         for d in DIMENSIONS {
-            let full = sheet_of_size(&mut self.random, d, LIMIT);
+            let full = bytes(&sheet_of_size(&mut self.random, d, LIMIT, 0));
             self.sheet(&full);
             self.parts(&full, 1000);
-            let large = sheet_of_size(&mut self.random, d, LIMIT + 1);
+            let large = bytes(&sheet_of_size(&mut self.random, d, LIMIT + 1, 0));
             self.sheet(&large);
             self.parts(&large, 4096);
             self.same("more than is listed", "refused 15 at 0\n", &of_parts(&[large, full].concat()[..LIMIT + 9], LIMIT));

@@ -5,7 +5,7 @@ use second::bisection::roots;
 use second::codes::Code;
 use second::entries::{self, Reading};
 use second::finder::Finder;
-use second::inputs::{self, Options};
+use second::inputs::{self, Options, LOST};
 use second::lent::{Lent, Tally};
 use second::random::Random;
 use second::sizes::*;
@@ -163,6 +163,76 @@ impl Comparison {
         }
     }
 
+    /// Every value of `which`, for good codes and others, with room enough and with too little.
+    fn every_which(&mut self, d: usize, depth: usize) {
+        for code in inputs::of_each_kind(&mut self.random, d, depth) {
+            let read = self.finder.read(&code);
+            let answer = code_length(d, depth + 1);
+            for which in 0..=255 {
+                let (more, less) = (self.random.below(PAST), 1 + self.random.below(answer));
+                let lents = [answer + more, answer - less].map(|n| Lent::new(&mut self.random, n));
+                lents.into_iter().for_each(|lent| self.child(&code, &read, which, lent));
+            }
+        }
+    }
+
+    /// Roots and paths whose lengths are good ones, or nearly, where only one or two bytes of a length
+    /// are kept; and both at once.
+    fn narrowed_paths(&mut self, d: usize, depth: usize) {
+        let (root, path) =
+            (inputs::good_root(&mut self.random, d), inputs::good_path(&mut self.random, depth));
+        let bad_root = vec![1; d];
+        for lost in LOST {
+            let depths = [0, 1, depth.saturating_sub(1), depth, depth + 1, greatest_depth(d)];
+            let long_roots: Vec<_> = (0..=MOST_AXES + 1)
+                .flat_map(|low| inputs::longer(&mut self.random, &root, lost + low))
+                .collect();
+            let long_paths: Vec<_> = depths
+                .iter()
+                .flat_map(|low| inputs::longer(&mut self.random, &path, lost + low))
+                .collect();
+            long_roots.iter().for_each(|root| self.with_room(root, &path));
+            for long_path in &long_paths {
+                let long_root = &long_roots[self.random.below(long_roots.len())];
+                let roots = [&root, &bad_root, long_root];
+                roots.iter().for_each(|root| self.with_room(root, long_path));
+            }
+        }
+    }
+
+    fn with_room(&mut self, root: &[u8], path: &[u8]) {
+        let lent = Lent::new(&mut self.random, LONGEST_CODE);
+        self.path_to_code(root, path, lent);
+    }
+
+    /// A good code with outputs that have room enough, and seem not to where only one or two bytes of
+    /// their lengths are kept.
+    fn narrowed_outputs(&mut self, d: usize, depth: usize) {
+        let code = inputs::good_code(&mut self.random, d, depth);
+        let read = self.finder.read(&code);
+        let found = read.as_ref().expect("a good code is refused").clone();
+        for lost in LOST {
+            for n in 0..=2 * d * (d + 1) {
+                let lent = Lent::new(&mut self.random, lost + n);
+                self.vertices(&code, &read, lent);
+            }
+            for n in 0..=code_length(d, depth + 1) {
+                let lents = [0; 3].map(|_| Lent::new(&mut self.random, lost + n));
+                let [child, parent, encoded] = lents;
+                self.child(&code, &read, (n % 2) as u8, child);
+                self.parent(&code, &read, parent);
+                self.path_to_code(&found.root, &found.path, encoded);
+            }
+            for n in 0..=depth {
+                let roots = [d, lost + n % (d + 1), d - 1];
+                for (root, path) in roots.into_iter().zip([lost + n, depth, lost + n]) {
+                    let lent = [root, path].map(|n| Lent::new(&mut self.random, n));
+                    self.code_to_path(&code, &read, lent);
+                }
+            }
+        }
+    }
+
     /// Every cell of a dimension at a depth, by its root and path and by its code.
     fn every_cell(&mut self, d: usize, depth: usize) {
         for root in roots(d) {
@@ -208,6 +278,16 @@ impl Comparison {
         for (axes, depth) in (0..=6).flat_map(|axes| (0..=60).map(move |depth| (axes, depth))) {
             (0..16).for_each(|_| self.path_lengths(axes, depth));
         }
+        self.tally.part("every short string, shallow cell, near length and change of a byte");
+        every_depth().iter().for_each(|(d, depth)| self.every_which(*d, *depth));
+        self.tally.part("every value of which");
+        for (d, depth) in every_depth() {
+            let codes = inputs::narrowing_codes(&mut self.random, d, depth);
+            codes.iter().for_each(|code| self.code(code));
+            self.narrowed_paths(d, depth);
+            self.narrowed_outputs(d, depth);
+        }
+        self.tally.part("lengths past 255 and 65,535");
     }
 
     /// As many more as were asked for, of every kind in turn.
@@ -219,6 +299,7 @@ impl Comparison {
             let (d, depth) = depths[n % depths.len()];
             self.path_lengths(d, depth);
         }
+        self.tally.part("random");
     }
 }
 

@@ -3,13 +3,16 @@
 use second::answers::SheetAnswer;
 use second::bisection::roots;
 use second::finder::{Finder, Found};
-use second::forests::{bytes, good_sheet, leaf, Leaf};
+use second::forests::{
+    bytes, good_sheet, leaf, sheet_of_at_least, sheet_of_depths, sheet_of_size, Leaf,
+};
 use second::inputs::{self, Options};
 use second::lent::Tally;
 use second::random::Random;
-use second::sheets::{Sheets, MARK};
+use second::sheets::{samples_length, Sheets, MARK};
 use second::sizes::*;
 use second::worked;
+use std::ops::Range;
 
 extern "C" {
     fn rmk_sheet_check(sheet: *const u8, n: usize) -> SheetAnswer;
@@ -18,6 +21,9 @@ extern "C" {
 fn library(sheet: &[u8]) -> SheetAnswer {
     unsafe { rmk_sheet_check(sheet.as_ptr(), sheet.len()) }
 }
+
+/// The least number that two bytes do not hold.
+const FAR: usize = 65_536;
 
 struct Comparison<'a> {
     sheets: Sheets<'a>,
@@ -75,11 +81,11 @@ impl Comparison<'_> {
         self.replaced(leaves, at, &[strange]);
     }
 
-    /// The sheet cut at every byte, and with every byte changed.
-    fn damaged(&mut self, sheet: &[u8], values: &[u8]) {
-        (0..=sheet.len()).for_each(|end| self.sheet(&sheet[..end]));
+    /// The sheet cut at every byte of a part, and with every byte there changed.
+    fn damaged(&mut self, sheet: &[u8], part: Range<usize>, values: &[u8]) {
+        part.clone().for_each(|end| self.sheet(&sheet[..end]));
         let mut changed = sheet.to_vec();
-        for at in 0..sheet.len() {
+        for at in part {
             let noise = self.random.byte();
             for change in values.iter().chain(&[noise]) {
                 changed[at] = sheet[at] ^ change;
@@ -111,7 +117,58 @@ impl Comparison<'_> {
             self.resized(&leaves, at);
         }
         self.lengthened(&leaves);
-        self.damaged(&bytes(&leaves), values);
+        let sheet = bytes(&leaves);
+        self.damaged(&sheet, 0..sheet.len(), values);
+    }
+
+    /// A sheet whose last record begins at 65,536: an early end, or anything wrong with it, is refused
+    /// there, and bytes after it a little past.
+    fn at_far(&mut self, d: usize) {
+        let last = MARK.len() + code_length(d, 0) + samples_length(d);
+        let leaves = sheet_of_size(&mut self.random, d, FAR + last, 1);
+        let sheet = bytes(&leaves);
+        self.sheet(&sheet);
+        self.moved(&leaves, leaves.len() - 1);
+        self.resized(&leaves, leaves.len() - 1);
+        self.damaged(&sheet, FAR..sheet.len(), &[1, 2, 128]);
+        self.lengthened(&leaves);
+    }
+
+    /// A larger sheet, with damage to records that begin past 65,536.
+    fn past_far(&mut self, d: usize) {
+        let leaves = sheet_of_at_least(&mut self.random, d, FAR + FAR / 8, 0);
+        let sheet = bytes(&leaves);
+        self.sheet(&sheet);
+        let mut end = 0;
+        let across = leaves.iter().position(|leaf| {
+            end += leaf.record.len();
+            end > FAR
+        });
+        let first = across.expect("no record ends past it") + 1;
+        for _ in 0..8 {
+            let at = first + self.random.below(leaves.len() - first);
+            self.moved(&leaves, at);
+            self.resized(&leaves, at);
+        }
+        let at = FAR + self.random.below(sheet.len() - FAR - 64);
+        self.damaged(&sheet, at..at + 64, &[1, 2, 128]);
+    }
+
+    /// Good sheets with 65,536 records and with more, and refusals that lie past so many.
+    fn many(&mut self) {
+        let leaves = sheet_of_depths(&mut self.random, 2, &[15, 15]);
+        assert_eq!(leaves.len(), FAR);
+        self.sheet(&bytes(&leaves));
+        let leaves = sheet_of_depths(&mut self.random, 2, &[15, 16]);
+        assert!(leaves.len() > FAR);
+        self.sheet(&bytes(&leaves));
+        for count in [FAR - 1, FAR, FAR + 1, leaves.len() - 1] {
+            self.sheet(&bytes(&leaves[..count]));
+        }
+        self.replaced(&leaves, FAR, &[]);
+        self.replaced(&leaves, FAR, &[leaves[FAR].clone(), leaves[FAR].clone()]);
+        self.replaced(&leaves, leaves.len() - 1, &[leaves[0].clone()]);
+        self.sheet(&bytes(&[&leaves[..], &leaves[..1]].concat()));
     }
 
     /// Inputs that every run has. Shallow sheets meet every change of every byte.
@@ -123,6 +180,14 @@ impl Comparison<'_> {
         for (d, depth) in every_depth() {
             self.every_damage(d, depth, &[1, 2, 128]);
         }
+        self.tally.part("every damage of a sheet");
+        for d in DIMENSIONS {
+            self.at_far(d);
+            self.past_far(d);
+        }
+        self.tally.part("refusals past 65,535 bytes");
+        self.many();
+        self.tally.part("65,536 records and more");
     }
 
     /// As many more good sheets as were asked for, each also with one change, and noise.
@@ -142,6 +207,7 @@ impl Comparison<'_> {
             self.sheet(&[&MARK[..], &noise].concat());
             self.sheet(&noise);
         }
+        self.tally.part("random");
     }
 }
 
