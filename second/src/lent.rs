@@ -52,15 +52,16 @@ fn hex(bytes: &[u8]) -> String {
 
 const SHOWN: usize = 96;
 
-/// How many inputs each entry was compared on.
+/// How many inputs each entry was compared on, in the comparison of a name.
 pub struct Tally {
+    name: &'static str,
     counts: Vec<(&'static str, usize)>,
     told: usize,
 }
 
 impl Tally {
-    pub fn new(entries: &[&'static str]) -> Tally {
-        Tally { counts: entries.iter().map(|entry| (*entry, 0)).collect(), told: 0 }
+    pub fn new(name: &'static str, entries: &[&'static str]) -> Tally {
+        Tally { name, counts: entries.iter().map(|entry| (*entry, 0)).collect(), told: 0 }
     }
 
     /// Runs both programs on copies of the same lent outputs. Answers and all cells must be equal;
@@ -94,9 +95,9 @@ impl Tally {
     }
 
     /// Tells how many inputs a part of the run had.
-    pub fn part(&mut self, name: &str) {
+    pub fn part(&mut self, part: &str) {
         let compared = self.counts.iter().map(|row| row.1).sum();
-        println!("{name}: {} inputs", compared - self.told);
+        println!("{}: {part}: {} inputs", self.name, compared - self.told);
         self.told = compared;
     }
 

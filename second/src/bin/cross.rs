@@ -146,7 +146,7 @@ fn main() {
     let finder = Finder::new();
     worked::check(&finder);
     let random = Random::new(options.seed);
-    let mut comparison = Comparison { finder, random, tally: Tally::new(&["cross"]) };
+    let mut comparison = Comparison { finder, random, tally: Tally::new("cross", &["cross"]) };
     comparison.fixed();
     comparison.random(options.count);
     comparison.tally.close();

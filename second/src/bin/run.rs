@@ -308,7 +308,7 @@ fn main() {
     let finder = Finder::new();
     worked::check(&finder);
     let random = Random::new(options.seed);
-    let mut comparison = Comparison { finder, random, tally: Tally::new(&ENTRIES) };
+    let mut comparison = Comparison { finder, random, tally: Tally::new("run", &ENTRIES) };
     comparison.fixed();
     comparison.random(options.count);
     comparison.tally.close();

@@ -217,7 +217,8 @@ fn main() {
     worked::check(&finder);
     let sheets = Sheets::new(&finder);
     let random = Random::new(options.seed);
-    let mut comparison = Comparison { sheets, random, tally: Tally::new(&["sheet_check"]) };
+    let tally = Tally::new("sheets", &["sheet_check"]);
+    let mut comparison = Comparison { sheets, random, tally };
     comparison.fixed();
     comparison.random(options.count);
     comparison.tally.close();
