@@ -7,7 +7,7 @@ use native.Mathlib.Omega.{arith}
 use lib.ListN.{length, drop}
 use Rattle.bisection.specs.Refusals.{done}
 use Rattle.sheets.specs.declared.SheetAnswer.{SheetAnswer}
-use Rattle.sheets.specs.Forests.{Cell}
+use Rattle.sheets.specs.Forests.{TreeCell}
 use Rattle.sheets.specs.Sheets.{sheetMark, sampleWidth, GoodSheet, SheetIs, told}
 use Rattle.sheets.specs.Sheets.{good as good-sheet}
 use Rattle.sheets.specs.Theorems.Determined.{sheet-determined}

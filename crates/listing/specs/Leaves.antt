@@ -12,7 +12,7 @@ use Rattle.bisection.specs.Refusals.{done}
 use Rattle.codes.specs.Fronts.{frontDimension, frontLength, frontCode}
 use Rattle.codes.specs.Fronts.Laws.{front-is-front, front-code-dimension, front-root}
 use Rattle.sheets.specs.declared.RecordParts.{RecordParts}
-use Rattle.sheets.specs.Forests.{Cell}
+use Rattle.sheets.specs.Forests.{TreeCell}
 use Rattle.sheets.specs.Sheets.{behindMark, bodyLength, recordLength, recordRefusal, GoodSheet}
 use Rattle.sheets.specs.Steps.{PartsAre}
 use Rattle.sheets.specs.StepLaws.{part-all}
@@ -42,15 +42,15 @@ pub line-length : (n : ℕ) (code : List ℕ) → length (leafLine n code) ≡ l
 unfolding leafLine
 line-length n code = length-append ((decimal n ++ space) ++ hex code) newline ∙ omega (arith, length-append (decimal n ++ space) (hex code), length-append (decimal n) space, hex-length code)
 
-record-length : (mark : List ℕ) (c : Cell) (samples rest : List ℕ) → length (recordOf mark c samples rest) ≡ length mark + (length (codeOf (c .root) (c .path)) + (length samples + length rest))
+record-length : (mark : List ℕ) (c : TreeCell) (samples rest : List ℕ) → length (recordOf mark c samples rest) ≡ length mark + (length (codeOf (c .root) (c .path)) + (length samples + length rest))
 record-length mark c samples rest = length-append mark (codeOf (c .root) (c .path) ++ (samples ++ rest)) ∙ omega (arith, length-append (codeOf (c .root) (c .path)) (samples ++ rest), length-append samples rest)
 
 -- a leaf's line is at most twice its record, for numbers of up to fourteen digits
 module _ (mark : List ℕ) (width : ℕ) (two : length mark ≡ 2) (wide : 2 ≤ width) where
-  samples-some : {c : Cell} → GoodCell c → (samples : List ℕ) → length samples ≡ width * suc (length (c .root)) → 6 ≤ length samples
+  samples-some : {c : TreeCell} → GoodCell c → (samples : List ℕ) → length samples ≡ width * suc (length (c .root)) → 6 ≤ length samples
   samples-some {c} g samples z = omega (arith, z, mul-le-mul {n₁ = 2} {m₁ = 3} {n₂ = width} {m₂ = suc (length (c .root))} wide (omega (arith, dimension (length (c .root)) (g .good-root .dimension) .two)))
 
-  pub lines-short : {cs : List Cell} {s : List ℕ} (n : ℕ) → Listed mark width cs s → n + length cs ≤ 10 ^ 14 → length (leafLines n cs) ≤ 2 * length s
+  pub lines-short : {cs : List TreeCell} {s : List ℕ} (n : ℕ) → Listed mark width cs s → n + length cs ≤ 10 ^ 14 → length (leafLines n cs) ≤ 2 * length s
   unfolding leafLines
   lines-short n listed-none h = omega arith
   lines-short n (listed-more {c = c} {cs = cs} {rest = rest} g samples z e l) h =
@@ -58,7 +58,7 @@ module _ (mark : List ℕ) (width : ℕ) (two : length mark ≡ 2) (wide : 2 ≤
       let both = length-append (leafLine n (codeOf (c .root) (c .path))) (leafLines (suc n) cs) in
       omega (arith, ap length e, record-length mark c samples rest, samples-some g samples z, decimal-short n 13 (omega arith), lines-short (suc n) l (omega arith))
 
-  few-records : {cs : List Cell} {s : List ℕ} → Listed mark width cs s → length cs ≤ length s
+  few-records : {cs : List TreeCell} {s : List ℕ} → Listed mark width cs s → length cs ≤ length s
   few-records listed-none = omega arith
   few-records (listed-more {c = c} {rest = rest} g samples z e l) = omega (arith, ap length e, record-length mark c samples rest, few-records l)
 
@@ -77,7 +77,7 @@ module _ {mark : List ℕ} {width : ℕ} {sheet : List ℕ} {records : ℕ} (goo
   pub first-record : First
   first-record = go (good-some good) cells-in good-listed refl
     where
-      go : {cs : List Cell} {s : List ℕ} → 0 < length cs → CellsIn (good .dimension) cs → Listed mark width cs s → sheet ≡ s → First
+      go : {cs : List TreeCell} {s : List ℕ} → 0 < length cs → CellsIn (good .dimension) cs → Listed mark width cs s → sheet ≡ s → First
       go h cells-none listed-none i = absurd (omega arith)
       go h (cells-more k q m) (listed-more {c = c} {rest = rest} g samples z e′ l) i = let e = i ∙ e′ in record {
         passes = rw e (record-passes mark width c g samples rest z);
@@ -94,14 +94,21 @@ module _ (mark : List ℕ) (width : ℕ) {sheet : List ℕ} {records : ℕ} (two
 -- the listing under way: the leaves that are left, and their records
 pub record Listing-on (mark : List ℕ) (width : ℕ) (sheet : List ℕ) (records from : ℕ) (out₀ : List ℕ) (at offset number : ℕ) (out : List ℕ) : Type 0 where
   pub good : GoodSheet mark width sheet records
-  pub left : List Cell
+  pub left : List TreeCell
   pub listed : Listed mark width left (drop offset sheet)
   pub inside : offset ≤ length sheet
   pub count : number + length left ≡ records
   pub putting : Putting from (leafLines 0 (good .cells)) out₀ at (leafLines number left) out
 
 pub on-start : (mark : List ℕ) (width : ℕ) (two : length mark ≡ 2) (sheet : List ℕ) (records from : ℕ) (out : List ℕ) → GoodSheet mark width sheet records → RoomFor width sheet from out → Listing-on mark width sheet records from out from 0 0 out
-on-start mark width two sheet records from out g r = record { good = g; left = g .cells; listed = good-listed g; inside = omega arith; count = omega (arith, g .count); putting = putting-start from (leafLines 0 (g .cells)) out (omega (arith, r .room, good-short mark width two (r .wide) g (r .small))) }
+on-start mark width two sheet records from out g r = record {
+  good = g;
+  left = g .cells;
+  listed = good-listed g;
+  inside = omega arith;
+  count = omega (arith, g .count);
+  putting = putting-start from (leafLines 0 (g .cells)) out (omega (arith, r .room, good-short mark width two (r .wide) g (r .small)));
+}
 
 -- the bytes from an offset on, and the code of a record behind its m mark bytes, as slices of the sheet
 abbrev pub onward : List ℕ → ℕ → List ℕ
@@ -119,7 +126,7 @@ pub record Line (mark : List ℕ) (width : ℕ) (sheet : List ℕ) (records from
   pub next : (p : RecordParts) → PartsAre mark width (onward sheet offset) p → {r : ℕ} {out′ : List ℕ} → Puts at (leafLine number (codeAt (length mark) sheet offset p)) out r out′ → Listing-on mark width sheet records from out₀ r (offset + p .whole) (number + 1) out′
 
 module _ {mark : List ℕ} {width : ℕ} {sheet : List ℕ} {records from : ℕ} {out₀ : List ℕ} {at offset number : ℕ} {out : List ℕ} (on : Listing-on mark width sheet records from out₀ at offset number out) where
-  module _ (c : Cell) (cs : List Cell) (left-is : on .left ≡ c ∷ cs) (g : GoodCell c) (samples rest : List ℕ) (z : length samples ≡ width * suc (length (c .root))) (e : drop offset sheet ≡ recordOf mark c samples rest) (listed : Listed mark width cs rest) where
+  module _ (c : TreeCell) (cs : List TreeCell) (left-is : on .left ≡ c ∷ cs) (g : GoodCell c) (samples rest : List ℕ) (z : length samples ≡ width * suc (length (c .root))) (e : drop offset sheet ≡ recordOf mark c samples rest) (listed : Listed mark width cs rest) where
     abbrev code : List ℕ
     code = codeOf (c .root) (c .path)
 
@@ -183,14 +190,14 @@ module _ {mark : List ℕ} {width : ℕ} {sheet : List ℕ} {records from : ℕ}
   pub on-line : number < records → Line mark width sheet records from out₀ at offset number out
   on-line h = go (on .left) refl (drop offset sheet) refl (on .listed)
     where
-      go : (cs : List Cell) → on .left ≡ cs → (s : List ℕ) → drop offset sheet ≡ s → Listed mark width cs s → Line mark width sheet records from out₀ at offset number out
+      go : (cs : List TreeCell) → on .left ≡ cs → (s : List ℕ) → drop offset sheet ≡ s → Listed mark width cs s → Line mark width sheet records from out₀ at offset number out
       go cs q s t listed-none = absurd (omega (arith, on .count, ap length q))
       go cs q s t (listed-more {c = c} {cs = ds} {rest = rest} g samples z e l) = line-of c ds q g samples rest z (t ∙ e) l
 
   pub on-end : length mark ≡ 2 → 2 ≤ width → records ≤ number → length sheet ≤ sheetLimit → PutsLeaves mark width sheet records from out₀ at out
   on-end two wide h small = record { sheet-is = on .good; puts = putting-end (on .putting) (go (on .left) refl); short = good-short mark width two wide (on .good) small }
     where
-      go : (cs : List Cell) → on .left ≡ cs → leafLines number (on .left) ≡ []
+      go : (cs : List TreeCell) → on .left ≡ cs → leafLines number (on .left) ≡ []
       go (c ∷ cs) q = absurd (omega (arith, on .count, ap length q))
       go [] q = ap (leafLines number) q ∙ nothing
         where

@@ -67,7 +67,10 @@ pub record RefusedLine (refusal offset : ℕ) (out : List ℕ) : Type 0 where
 
 pub refused-length : (refusal offset : ℕ) → length (refusedText refusal offset) ≡ 8 + (length (decimal refusal) + (4 + (length (decimal offset) + 1)))
 unfolding refusedText
-refused-length refusal offset = length-append (((refusedWord ++ decimal refusal) ++ atWord) ++ decimal offset) newline ∙ omega (arith, length-append ((refusedWord ++ decimal refusal) ++ atWord) (decimal offset), length-append (refusedWord ++ decimal refusal) atWord, length-append refusedWord (decimal refusal))
+refused-length refusal offset =
+    let number = length-append refusedWord (decimal refusal) in
+    let front = length-append (refusedWord ++ decimal refusal) atWord in
+    length-append (((refusedWord ++ decimal refusal) ++ atWord) ++ decimal offset) newline ∙ omega (arith, length-append ((refusedWord ++ decimal refusal) ++ atWord) (decimal offset))
 
 pub refused-short : (refusal offset : ℕ) → refusal < 256 → offset ≤ sheetLimit → length (refusedText refusal offset) ≤ 32
 refused-short refusal offset h k = omega (arith, refused-length refusal offset, decimal-short refusal 2 (omega arith), decimal-short offset 13 (omega arith))

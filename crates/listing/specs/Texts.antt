@@ -9,7 +9,7 @@ use lib.ListN.{length, drop}
 use Rattle.bisection.specs.Codes.{codeOf}
 use Rattle.bisection.specs.Refusals.{done}
 use Rattle.sheets.specs.declared.SheetAnswer.{SheetAnswer}
-use Rattle.sheets.specs.Forests.{Cell}
+use Rattle.sheets.specs.Forests.{TreeCell}
 use Rattle.sheets.specs.Sheets.{sheetMark, sampleWidth, GoodSheet, SheetIs}
 
 -- the listing program: its input is larger than 65,536 bytes
@@ -67,12 +67,12 @@ unfoldable pub leafLine : ℕ → List ℕ → List ℕ
 leafLine n code = ((decimal n ++ space) ++ hex code) ++ newline
 
 -- a line for each leaf, from a number on
-unfoldable pub leafLines : ℕ → List Cell → List ℕ
+unfoldable pub leafLines : ℕ → List TreeCell → List ℕ
 leafLines n [] = []
 leafLines n (c ∷ cs) = leafLine n (codeOf (c .root) (c .path)) ++ leafLines (suc n) cs
 
 -- a good sheet: the dimension, the leaves, and how many they are
-unfoldable pub goodText : ℕ → List Cell → List ℕ
+unfoldable pub goodText : ℕ → List TreeCell → List ℕ
 goodText d cells = (numberLine dimWord d ++ leafLines 0 cells) ++ numberLine leavesWord (length cells)
 
 -- a refused sheet: one line

@@ -45,7 +45,8 @@ module _ (mark : List ℕ) (width : ℕ) (two : length mark ≡ 2) (sheet : List
       good-puts {t} {out₃} u = record { sheet-is = q .sheet-is; puts = subst (λ (w : List ℕ). Puts 0 w out t out₃) same (puts-more both-fit (puts-more first-fits p (q .puts)) u); short = omega (arith, ap length same, ends, first-length, last-length, q .short, both-length) }
         where
           same : (numberLine dimWord d ++ leafLines 0 (q .sheet-is .cells)) ++ numberLine leavesWord records ≡ (numberLine dimWord (q .sheet-is .dimension) ++ leafLines 0 (q .sheet-is .cells)) ++ numberLine leavesWord (length (q .sheet-is .cells))
-          same = ap (λ (n : ℕ). (numberLine dimWord n ++ leafLines 0 (q .sheet-is .cells)) ++ numberLine leavesWord records) (is ∙ same-axes g (q .sheet-is)) ∙ ap (λ (n : ℕ). (numberLine dimWord (q .sheet-is .dimension) ++ leafLines 0 (q .sheet-is .cells)) ++ numberLine leavesWord n) (sym (q .sheet-is .count))
+          same = ap (λ (n : ℕ). (numberLine dimWord n ++ leafLines 0 (q .sheet-is .cells)) ++ numberLine leavesWord records) (is ∙ same-axes g (q .sheet-is))
+              ∙ ap (λ (n : ℕ). (numberLine dimWord (q .sheet-is .dimension) ++ leafLines 0 (q .sheet-is .cells)) ++ numberLine leavesWord n) (sym (q .sheet-is .count))
 
           both-length : length (numberLine dimWord d ++ leafLines 0 (q .sheet-is .cells)) ≡ length (numberLine dimWord d) + length (leafLines 0 (q .sheet-is .cells))
           both-length = length-append (numberLine dimWord d) (leafLines 0 (q .sheet-is .cells))

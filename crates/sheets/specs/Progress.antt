@@ -25,20 +25,21 @@ use Rattle.positions.specs.RootNumbers.{roots-count, roots-some, roots-apart}
 use Rattle.sheets.specs.declared.State.{State}
 use Rattle.sheets.specs.declared.SheetAnswer.{SheetAnswer}
 use Rattle.sheets.specs.declared.Stepped.{Stepped}
-use Rattle.sheets.specs.Forests.{Cell, cell, Leaves, Within}
+use Rattle.sheets.specs.Forests.{TreeCell, treeCell, Leaves, NoDeeper}
 use Rattle.sheets.specs.Sheets.{refusedLeaf, Records, GoodSheet, Begins, behindMark, recordLength, recordRefusal, Read, start, next, told, Checks, good, record-refused, not-next, ended-early}
 use Rattle.sheets.specs.Steps.{Fits, TakeIs, not-taken, on, over, moved, StepIs, own-refusal, read}
 use Rattle.sheets.specs.Theorems.Frontier.{bit, steps, steps-length, zeros, zeros-length, advance, Follows, end, leaf, begins-follows, follows-begins, good-follows, follows-good, follows-one, Split, follows-split, follows-join}
 use Rattle.sheets.specs.Theorems.Frontier as frontier
 use Rattle.sheets.specs.Theorems.Line.{Ends, at-root, at-one, Zeroed, start-next, start-zeros, start-inside, Advanced, same-root, root-over, advanced, bits, Bits}
-use Rattle.sheets.specs.Theorems.Listing.{GoodCell, recordOf, IsRecord, record-read, Listed, listed-none, listed-more, listed-join, listed-empty, Cut, cut, CellsIn, cells-none, cells-more, cells-join, cells-front, cells-within, records-listed, listed-records, write, records-join, roots-in, follows-cells, leaves-cells, same-dimension}
+use Rattle.sheets.specs.Theorems.Listing.{GoodCell, recordOf, IsRecord, record-read, Listed, listed-none, listed-more, listed-join, listed-empty, Cut, cut}
+use Rattle.sheets.specs.Theorems.Listing.{CellsIn, cells-none, cells-more, cells-join, cells-front, cells-within, records-listed, listed-records, write, records-join, roots-in, follows-cells, leaves-cells, same-dimension}
 use Rattle.sheets.specs.Theorems.Determined.{record-inside}
 
 abbrev pub M : ℕ → ℕ
 M d = greatestDepth d
 
 -- in dimension d, after these cells: root is the number of the frontier's root, start where the frontier starts
-pub record Stands (d : ℕ) (cells : List Cell) (root start : ℕ) : Type 0 where
+pub record Stands (d : ℕ) (cells : List TreeCell) (root start : ℕ) : Type 0 where
   pub cells-in : CellsIn d cells
   pub path : List Bool
   pub follows : Follows (frontier.state (roots d) []) cells (frontier.state (drop root (roots d)) path)
@@ -48,14 +49,14 @@ pub record Stands (d : ℕ) (cells : List Cell) (root start : ℕ) : Type 0 wher
   pub root-in : root ≤ length (roots d)
 
 -- no record yet, or in a dimension
-pub data Front (cells : List Cell) (s : State) : Type 0 where
+pub data Front (cells : List TreeCell) (s : State) : Type 0 where
   fresh : cells ≡ [] → s .dimension ≡ 0 → s .root ≡ 0 → s .start ≡ 0 → Front cells s
   within : isDimension (s .dimension) ≡ true → 0 < length cells → Stands (s .dimension) cells (s .root) (s .start) → Front cells s
 
 pub record Going (mark : List ℕ) (width : ℕ) (sheet : List ℕ) (s : State) : Type 0 where
   pub inside : s .offset ≤ length sheet
   pub few : s .records ≤ s .offset
-  pub cells : List Cell
+  pub cells : List TreeCell
   pub listed : Listed mark width cells (take (s .offset) sheet)
   pub count : length cells ≡ s .records
   pub reading : Read mark width sheet (s .offset) (s .records)
@@ -70,7 +71,7 @@ unfolding startOf steps
 stands-first d = record { cells-in = cells-none; path = []; follows = end; ends = at-root; short = omega arith; start-is = refl; root-in = omega arith }
 
 -- the state's frontier in the dimension of the next leaf
-stands-in : {cells : List Cell} {s : State} → Front cells s → (d : ℕ) → (s .dimension ≢ 0 → s .dimension ≡ d) → Stands d cells (s .root) (s .start)
+stands-in : {cells : List TreeCell} {s : State} → Front cells s → (d : ℕ) → (s .dimension ≢ 0 → s .dimension ≡ d) → Stands d cells (s .root) (s .start)
 stands-in {cells} {s} (fresh a b c e) d h = rw (a, c, e) (stands-first d)
 stands-in {cells} {s} (within a b w) d h = subst (λ (n : ℕ). Stands n cells (s .root) (s .start)) (h (some (s .dimension) a)) w
   where
@@ -78,11 +79,11 @@ stands-in {cells} {s} (within a b w) d h = subst (λ (n : ℕ). Stands n cells (
     some n e q = omega (arith, dimension n e .two)
 
 -- one leaf more
-record Leafed (d : ℕ) (cells : List Cell) (c : Cell) (n : ℕ) (e : ℕ) : Type 0 where
+record Leafed (d : ℕ) (cells : List TreeCell) (c : TreeCell) (n : ℕ) (e : ℕ) : Type 0 where
   pub stays : e ≢ 2 ^ greatestDepth d → Stands d (cells ++ c ∷ []) n e
   pub turns : e ≡ 2 ^ greatestDepth d → Stands d (cells ++ c ∷ []) (n + 1) 0
 
-module _ (d : ℕ) (dim : isDimension d ≡ true) (cells : List Cell) (root st : ℕ) (w : Stands d cells root st) (c : Cell) (g : GoodCell c) (ax : length (c .root) ≡ d) where
+module _ (d : ℕ) (dim : isDimension d ≡ true) (cells : List TreeCell) (root st : ℕ) (w : Stands d cells root st) (c : TreeCell) (g : GoodCell c) (ax : length (c .root) ≡ d) where
   deep : length (c .path) ≤ greatestDepth d
   deep = subst (λ (n : ℕ). length (c .path) ≤ greatestDepth n) ax (g .good-path .depth)
 
@@ -107,11 +108,12 @@ module _ (d : ℕ) (dim : isDimension d ≡ true) (cells : List Cell) (root st :
     unfolding rest
     here = drop-cons (roots d) root [] lt ∙ ap (λ (r : List ℕ). r ∷ drop (suc root) (roots d)) is
 
-    c-is : c ≡ cell (c .root) (steps (zeros (z .n) (w .path)))
+    c-is : c ≡ treeCell (c .root) (steps (zeros (z .n) (w .path)))
     c-is = λ i. record { root = c .root; path = (sym (b .is) ∙ ap steps (z .is)) i }
 
     joined : Follows (frontier.state (roots d) []) (cells ++ c ∷ []) (advance (c .root) rest (zeros (z .n) (w .path)))
-    joined = follows-join (subst (λ (rs : List (List ℕ)). Follows (frontier.state (roots d) []) cells (frontier.state rs (w .path))) here (w .follows)) (subst (λ (x : Cell). Follows (frontier.state (c .root ∷ rest) (w .path)) (x ∷ []) (advance (c .root) rest (zeros (z .n) (w .path)))) (sym c-is) (leaf (z .n) end))
+    joined = follows-join (subst (λ (rs : List (List ℕ)). Follows (frontier.state (roots d) []) cells (frontier.state rs (w .path))) here (w .follows))
+        (subst (λ (x : TreeCell). Follows (frontier.state (c .root ∷ rest) (w .path)) (x ∷ []) (advance (c .root) rest (zeros (z .n) (w .path)))) (sym c-is) (leaf (z .n) end))
 
     joined-as : Follows (frontier.state (roots d) []) (cells ++ c ∷ []) (advance (c .root) rest (b .bools))
     joined-as = subst (λ (q : List Bool). Follows (frontier.state (roots d) []) (cells ++ c ∷ []) (advance (c .root) rest q)) (sym (z .is)) joined
@@ -129,12 +131,28 @@ module _ (d : ℕ) (dim : isDimension d ≡ true) (cells : List Cell) (root st :
 
         go : Advanced (greatestDepth d) (c .root) rest (b .bools) → Leafed d cells c root e
         go (same-root p a en h s) = record {
-          stays = λ n. record { cells-in = more-cells; path = p; follows = subst (λ (x : frontier.State). Follows (frontier.state (roots d) []) (cells ++ c ∷ []) x) (a ∙ ap (λ (rs : List (List ℕ)). frontier.state rs p) (sym here)) joined-as; ends = en; short = h; start-is = sym (ending e q) ∙ s; root-in = w .root-in };
+          stays = λ n. record {
+            cells-in = more-cells;
+            path = p;
+            follows = subst (λ (x : frontier.State). Follows (frontier.state (roots d) []) (cells ++ c ∷ []) x) (a ∙ ap (λ (rs : List (List ℕ)). frontier.state rs p) (sym here)) joined-as;
+            ends = en;
+            short = h;
+            start-is = sym (ending e q) ∙ s;
+            root-in = w .root-in;
+          };
           turns = λ n. absurd (omega (arith, start-inside (greatestDepth d) p h, pow-pos (greatestDepth d - length p), sym (ending e q) ∙ s));
         }
         go (root-over a s) = record {
           stays = λ n. absurd (n (sym (ending e q) ∙ s));
-          turns = λ n. record { cells-in = more-cells; path = []; follows = subst (λ (x : frontier.State). Follows (frontier.state (roots d) []) (cells ++ c ∷ []) x) (a ∙ ap (λ (k : ℕ). frontier.state (drop k (roots d)) []) plus) joined-as; ends = at-root; short = omega arith; start-is = unfold startOf steps in refl; root-in = omega arith };
+          turns = λ n. record {
+            cells-in = more-cells;
+            path = [];
+            follows = subst (λ (x : frontier.State). Follows (frontier.state (roots d) []) (cells ++ c ∷ []) x) (a ∙ ap (λ (k : ℕ). frontier.state (drop k (roots d)) []) plus) joined-as;
+            ends = at-root;
+            short = omega arith;
+            start-is = unfold startOf steps in refl;
+            root-in = omega arith;
+          };
         }
 
   -- a leaf that is the next one fits
@@ -145,18 +163,18 @@ module _ (d : ℕ) (dim : isDimension d ≡ true) (cells : List Cell) (root st :
     back : Follows (frontier.state (drop root (roots d)) (w .path)) (c ∷ []) u
     back = subst (λ (x : frontier.State). Follows x (c ∷ []) u) (follows-one (k .front) (w .follows)) (k .back)
 
-    pub record Taken (rs : List (List ℕ)) (p : List Bool) (x : Cell) : Type 0 where
+    pub record Taken (rs : List (List ℕ)) (p : List Bool) (x : TreeCell) : Type 0 where
       pub rest : List (List ℕ)
       pub n : ℕ
       pub roots-are : rs ≡ x .root ∷ rest
       pub path-is : x .path ≡ steps (zeros n p)
 
-    taken : {s : frontier.State} {ls : List Cell} (rs : List (List ℕ)) (p : List Bool) (x : Cell) → s ≡ frontier.state rs p → ls ≡ x ∷ [] → Follows s ls u → Taken rs p x
+    taken : {s : frontier.State} {ls : List TreeCell} (rs : List (List ℕ)) (p : List Bool) (x : TreeCell) → s ≡ frontier.state rs p → ls ≡ x ∷ [] → Follows s ls u → Taken rs p x
     taken rs p x e q end = absurd (let z : _≡_ {A = ℕ} 0 1 = cc in omega arith)
     taken rs p x e q (leaf {r = r} {rs = rs′} {p = p′} n g) =
-        let a : cell r (steps (zeros n p′)) ≡ x = cc in
+        let a : treeCell r (steps (zeros n p′)) ≡ x = cc in
         let h : p′ ≡ p = ap (λ (s : frontier.State). s .path) e in
-        record { rest = rs′; n = n; roots-are = sym (ap (λ (s : frontier.State). s .roots) e) ∙ ap (λ (y : Cell). y .root ∷ rs′) a; path-is = sym (ap (λ (y : Cell). y .path) a) ∙ ap (λ (y : List Bool). steps (zeros n y)) h }
+        record { rest = rs′; n = n; roots-are = sym (ap (λ (s : frontier.State). s .roots) e) ∙ ap (λ (y : TreeCell). y .root ∷ rs′) a; path-is = sym (ap (λ (y : TreeCell). y .path) a) ∙ ap (λ (y : List Bool). steps (zeros n y)) h }
 
     t : Taken (drop root (roots d)) (w .path) c
     t = taken (drop root (roots d)) (w .path) c refl refl back
@@ -176,7 +194,7 @@ module _ (d : ℕ) (dim : isDimension d ≡ true) (cells : List Cell) (root st :
     next-start : startOf (greatestDepth d) (c .path) ≡ st
     next-start = ap (startOf (greatestDepth d)) (t .path-is) ∙ start-zeros (greatestDepth d) (t .n) (w .path) (omega (arith, deep, ap length (t .path-is), steps-length (zeros (t .n) (w .path)), zeros-length (t .n) (w .path))) ∙ sym (w .start-is)
 
-last-dimension : {d : ℕ} (cs : List Cell) (c : Cell) → CellsIn d (cs ++ c ∷ []) → length (c .root) ≡ d
+last-dimension : {d : ℕ} (cs : List TreeCell) (c : TreeCell) → CellsIn d (cs ++ c ∷ []) → length (c .root) ≡ d
 last-dimension [] c (cells-more g e l) = e
 last-dimension (x ∷ cs) c (cells-more g e l) = last-dimension cs c l
 
@@ -192,7 +210,7 @@ module _ {mark : List ℕ} {width : ℕ} {sheet : List ℕ} {s : State} (g : Goi
     it : IsRecord mark width (drop (s .offset) sheet)
     it = record-read mark width (drop (s .offset) sheet) ok
 
-    abbrev c : Cell
+    abbrev c : TreeCell
     c = it .of
 
     abbrev piece : List ℕ
@@ -283,7 +301,8 @@ module _ {mark : List ℕ} {width : ℕ} {sheet : List ℕ} {s : State} (g : Goi
         w = stands-in (g .front) d (ft .dimension-fits)
 
         after : Leafed d (g .cells) c (s .root) (leaf .start + leaf .size)
-        after = leafed d is-d (g .cells) (s .root) (s .start) w c (it .good) axes (subst (λ (k : ℕ). k < length (roots d)) (ft .root-fits) number-in) (ap (λ (k : ℕ). getD (roots d) k []) (sym (ft .root-fits)) ∙ number-is) (sym leaf-start ∙ ft .start-fits) (leaf .start + leaf .size) (ap (λ (k : ℕ). k + leaf .size) (ft .start-fits) ∙ ap (λ (k : ℕ). s .start + k) leaf-size)
+        after = leafed d is-d (g .cells) (s .root) (s .start) w c (it .good) axes (subst (λ (k : ℕ). k < length (roots d)) (ft .root-fits) number-in)
+            (ap (λ (k : ℕ). getD (roots d) k []) (sym (ft .root-fits)) ∙ number-is) (sym leaf-start ∙ ft .start-fits) (leaf .start + leaf .size) (ap (λ (k : ℕ). k + leaf .size) (ft .start-fits) ∙ ap (λ (k : ℕ). s .start + k) leaf-size)
 
         begun : {root st : ℕ} → Stands d (g .cells ++ c ∷ []) root st → Begins mark width (take (s .offset + n) sheet)
         begun v =
@@ -317,7 +336,8 @@ module _ {mark : List ℕ} {width : ℕ} {sheet : List ℕ} {s : State} (g : Goi
       pub going-on : Going mark width sheet t
       pub farther : s .offset < t .offset
 
-    gone : (ok : recordRefusal mark width (drop (s .offset) sheet) ≡ done) (root st : ℕ) → Going mark width sheet (record { offset = s .offset + n ok; records = s .records + 1; dimension = d ok; root = root; start = st }) → Gone (record { offset = s .offset + n ok; records = s .records + 1; dimension = d ok; root = root; start = st })
+    gone : (ok : recordRefusal mark width (drop (s .offset) sheet) ≡ done) (root st : ℕ) → Going mark width sheet (record { offset = s .offset + n ok; records = s .records + 1; dimension = d ok; root = root; start = st })
+        → Gone (record { offset = s .offset + n ok; records = s .records + 1; dimension = d ok; root = root; start = st })
     gone ok root st v = record { going-on = v; farther = omega (arith, record-inside mark width (drop (s .offset) sheet) ok .1) }
 
     pub go-on : {r : Stepped} → StepIs mark width s (drop (s .offset) sheet) r → r .refusal ≡ 0 → Gone (r .state)
@@ -338,7 +358,7 @@ module _ {mark : List ℕ} {width : ℕ} {sheet : List ℕ} {s : State} (g : Goi
     the-cells : {m : ℕ} (h : GoodSheet mark width sheet m) → h .cells ≡ g .cells
     the-cells h =
         let k = cut mark width [] all-listed (listed-good h) (sym (append-nil sheet)) in
-        k .is ∙ ap (λ (l : List Cell). g .cells ++ l) (listed-empty mark width (k .listed) refl) ∙ append-nil (g .cells)
+        k .is ∙ ap (λ (l : List TreeCell). g .cells ++ l) (listed-empty mark width (k .listed) refl) ∙ append-nil (g .cells)
 
     no-roots : (d : ℕ) → roots d ≡ [] → ⊥
     no-roots d q = omega (arith, roots-some d, ap length q)
@@ -352,7 +372,7 @@ module _ {mark : List ℕ} {width : ℕ} {sheet : List ℕ} {s : State} (g : Goi
         never : {m : ℕ} → Front (g .cells) s → GoodSheet mark width sheet m → ⊥
         never (fresh a b r t) h =
             let o = over-in h in
-            no-roots (h .dimension) (ap (λ (x : frontier.State). x .roots) (follows-one end (subst (λ (l : List Cell). Follows (frontier.state (roots (h .dimension)) []) l (o .0)) a (o .1))) ∙ o .2)
+            no-roots (h .dimension) (ap (λ (x : frontier.State). x .roots) (follows-one end (subst (λ (l : List TreeCell). Follows (frontier.state (roots (h .dimension)) []) l (o .0)) a (o .1))) ∙ o .2)
         never (within a l w) h = omega (arith, dimension (s .dimension) a .two)
 
     pub go-early : s .dimension ≢ 0 → s .root ≢ rootCount (s .dimension) → Checks mark width sheet (told refusedLeaf (s .offset) 0)
@@ -382,7 +402,14 @@ module _ {mark : List ℕ} {width : ℕ} {sheet : List ℕ} {s : State} (g : Goi
         by (within a l w) =
             let past : length (roots (s .dimension)) ≤ s .root = omega (arith, roots-count (s .dimension)) in
             let none : drop (s .root) (roots (s .dimension)) ≡ [] = drop-of-length-le (roots (s .dimension)) past in
-            good (record { dimension = s .dimension; is-dimension = a; cells = g .cells; leaves = follows-good (subst (λ (rs : List (List ℕ)). Follows (frontier.state (roots (s .dimension)) []) (g .cells) (frontier.state rs (w .path))) none (w .follows)) (cells-within (w .cells-in)); records = listed-records (w .cells-in) all-listed; count = g .count }) refl
+            good (record {
+              dimension = s .dimension;
+              is-dimension = a;
+              cells = g .cells;
+              records = listed-records (w .cells-in) all-listed;
+              count = g .count;
+              leaves = follows-good (subst (λ (rs : List (List ℕ)). Follows (frontier.state (roots (s .dimension)) []) (g .cells) (frontier.state rs (w .path))) none (w .follows)) (cells-within (w .cells-in));
+            }) refl
 
 -- an answer by its fields
 pub answer-told : {mark : List ℕ} {width : ℕ} {sheet : List ℕ} (a : SheetAnswer) (x y : ℕ) → (a .refusal ≡ x) × (a .offset ≡ y) × (a .records ≡ 0) → Checks mark width sheet (told x y 0) → Checks mark width sheet a

@@ -12,7 +12,7 @@ use Rattle.bisection.specs.Roots.{roots}
 use Rattle.bisection.specs.Codes.{codeOf}
 use Rattle.bisection.specs.Refusals.{done, need, own, firstRefusal}
 use Rattle.codes.specs.Fronts.{frontRefusal, frontDimension, frontLength, frontCode, innerRefusal}
-use Rattle.sheets.specs.Forests.{Cell, Leaves}
+use Rattle.sheets.specs.Forests.{TreeCell, Leaves}
 use Rattle.sheets.specs.declared.SheetAnswer.{SheetAnswer}
 
 -- sheet: mark missing or wrong, or record cut short
@@ -32,15 +32,15 @@ abbrev pub sampleWidth : ℕ
 sampleWidth = 2
 
 -- the records of the leaves, one after the other: the mark, the code, then d + 1 samples, which may be any
-pub data Records (mark : List ℕ) (width d : ℕ) : List Cell → List ℕ → Type 0 where
+pub data Records (mark : List ℕ) (width d : ℕ) : List TreeCell → List ℕ → Type 0 where
   none : Records mark width d [] []
-  more : {c : Cell} {cs : List Cell} {rest sheet : List ℕ} (samples : List ℕ) → length samples ≡ width * suc d → sheet ≡ mark ++ (codeOf (c .root) (c .path) ++ (samples ++ rest)) → Records mark width d cs rest → Records mark width d (c ∷ cs) sheet
+  more : {c : TreeCell} {cs : List TreeCell} {rest sheet : List ℕ} (samples : List ℕ) → length samples ≡ width * suc d → sheet ≡ mark ++ (codeOf (c .root) (c .path) ++ (samples ++ rest)) → Records mark width d cs rest → Records mark width d (c ∷ cs) sheet
 
 -- a good sheet of n records: it lists, in tree order, the leaves of a forest on all roots of a dimension
 pub record GoodSheet (mark : List ℕ) (width : ℕ) (sheet : List ℕ) (n : ℕ) : Type 0 where
   pub dimension : ℕ
   pub is-dimension : isDimension dimension ≡ true
-  pub cells : List Cell
+  pub cells : List TreeCell
   pub leaves : Leaves (roots dimension) (greatestDepth dimension) cells
   pub records : Records mark width dimension cells sheet
   pub count : length cells ≡ n

@@ -142,7 +142,16 @@ module _ (width : ℕ) (bs : List ℕ) where
 
             pub body-done : n ≤ length bs → BodyIs width bs (record { refusal = done; dimension = r .dimension; code = r .length; length = n })
             unfolding unmarkedRefusal
-            body-done l = record { refusal-is = sym (first-is (past passes (holds (le-leb (frontLength bs) (length bs) room) (past (inner ∙ z) (holds (le-leb (bodyLength width bs) (length bs) (omega (arith, whole))) all-hold))))); dimension-is = λ q. is .dimension passes; code-is = λ q. size; length-is = λ q. whole }
+            body-done l = record {
+              refusal-is = sym (first-is (past passes (holds (le-leb (frontLength bs) (length bs) room) (past (inner ∙ z) (holds (le-leb (bodyLength width bs) (length bs) (omega (arith, whole))) all-hold)))));
+              dimension-is = λ q. is .dimension passes;
+              code-is = λ q. size;
+              length-is = λ q. whole;
+            }
+
+-- the head behind a mark of two bytes, as the code reads it
+pub head-behind : {r : Head} (first second : ℕ) (bs : List ℕ) → HeadIs (take (length bs - 2) (drop 2 bs)) r → HeadIs (behindMark (twoBytes first second) bs) r
+head-behind {r} first second bs is = subst (λ (l : List ℕ). HeadIs l r) (part-marked first second bs) is
 
 -- the parts of a record that passes its own tests
 module _ (mark : List ℕ) (width : ℕ) (bs : List ℕ) (e : recordRefusal mark width bs ≡ done) where

@@ -1,5 +1,5 @@
 // The sheet layer: records, and the check of a whole sheet. It knows a code by what the code layer says of it: its
-// head, its body, and where its cell stands on the line. The check is a loop over one step, whose state is small.
+// head, its body, and where its treeCell stands on the line. The check is a loop over one step, whose state is small.
 ghost use mathlib.Core.Path.{_≡_};
 ghost use Prim.Native.Nat.{suc, _*_, _≤_};
 ghost use lib.ListN.{length};

@@ -43,10 +43,14 @@ first-edition-requires c κs = search needs
 
 put-good-requires : tie.Need-put-good-requires
 put-good-requires c κs =
-    let args = c .before .before .before .before .before .before .before .args in
-    let sheet-check = c .before .before .before .before .sheet-check in
-    let if2 = c .before .before .if2 in
-    let if1 = c .before .before .before .before .before .if1 in
+    let the-args = c .before .before .before .before .before .before .before .args in
+    let the-sheet-check = c .before .before .before .before .sheet-check in
+    let the-if2 = c .before .before .if2 in
+    let the-if1 = c .before .before .before .before .before .if1 in
+    let args = the-args in
+    let sheet-check = the-sheet-check in
+    let if2 = the-if2 in
+    let if1 = the-if1 in
     let room : 2 * sheetLimit + 32 ≤ length (args .out .now) = search needs in
     (first-good (c .before .first-edition .ensures) (good-of (sheet-check .ensures) (if2 .left)), record { wide = omega (arith, c .before .first-edition .ensures .width-is); small = if1 .left; room = omega (arith, if1 .left) })
 

@@ -12,28 +12,64 @@ put-requires : tie.Need-put-requires
 put-requires c κs = search needs
 
 put-decimal-requires : tie.Need-put-decimal-requires
-put-decimal-requires c κs = refused-fits (c .before .before .before .before .before .before .before .args .refusal) (c .before .before .before .before .before .before .before .args .offset) (c .before .before .before .before .before .before .before .args .out .now) (c .before .before .before .before .before .before .before .fits .refusal .fits) (c .before .before .before .before .before .before .before .pre .0) (c .before .before .before .before .before .before .before .pre .1) .second (c .before .before .before .put .ensures)
+put-decimal-requires c κs =
+    let args = c .before .before .before .before .before .before .before .args in
+    let fits = c .before .before .before .before .before .before .before .fits in
+    let pre = c .before .before .before .before .before .before .before .pre in
+    let put = c .before .before .before .put in
+    refused-fits (args .refusal) (args .offset) (args .out .now) (fits .refusal .fits) (pre .0) (pre .1) .second (put .ensures)
 
 slice-aggregate-put-2 : tie.Need-slice-aggregate-put-2
 slice-aggregate-put-2 c = search needs
 
 put-requires-2 : tie.Need-put-requires-2
-put-requires-2 c κs = refused-fits (c .before .before .before .before .before .before .before .before .before .before .before .before .args .refusal) (c .before .before .before .before .before .before .before .before .before .before .before .before .args .offset) (c .before .before .before .before .before .before .before .before .before .before .before .before .args .out .now) (c .before .before .before .before .before .before .before .before .before .before .before .before .fits .refusal .fits) (c .before .before .before .before .before .before .before .before .before .before .before .before .pre .0) (c .before .before .before .before .before .before .before .before .before .before .before .before .pre .1) .third (c .before .before .before .before .before .before .before .before .put .ensures) (c .before .before .before .before .put-decimal .ensures)
+put-requires-2 c κs =
+    let args = c .before .before .before .before .before .before .before .before .before .before .before .before .args in
+    let fits = c .before .before .before .before .before .before .before .before .before .before .before .before .fits in
+    let pre = c .before .before .before .before .before .before .before .before .before .before .before .before .pre in
+    let put = c .before .before .before .before .before .before .before .before .put in
+    let put-decimal = c .before .before .before .before .put-decimal in
+    refused-fits (args .refusal) (args .offset) (args .out .now) (fits .refusal .fits) (pre .0) (pre .1) .third (put .ensures) (put-decimal .ensures)
 
 put-decimal-requires-2 : tie.Need-put-decimal-requires-2
-put-decimal-requires-2 c κs = refused-fits (c .before .before .before .before .before .before .before .before .before .before .before .before .before .before .before .before .args .refusal) (c .before .before .before .before .before .before .before .before .before .before .before .before .before .before .before .before .args .offset) (c .before .before .before .before .before .before .before .before .before .before .before .before .before .before .before .before .args .out .now) (c .before .before .before .before .before .before .before .before .before .before .before .before .before .before .before .before .fits .refusal .fits) (c .before .before .before .before .before .before .before .before .before .before .before .before .before .before .before .before .pre .0) (c .before .before .before .before .before .before .before .before .before .before .before .before .before .before .before .before .pre .1) .fourth (c .before .before .before .before .before .before .before .before .before .before .before .before .put .ensures) (c .before .before .before .before .before .before .before .before .put-decimal .ensures) (c .before .before .before .put2 .ensures)
+put-decimal-requires-2 c κs =
+    let args = c .before .before .before .before .before .before .before .before .before .before .before .before .before .before .before .before .args in
+    let fits = c .before .before .before .before .before .before .before .before .before .before .before .before .before .before .before .before .fits in
+    let pre = c .before .before .before .before .before .before .before .before .before .before .before .before .before .before .before .before .pre in
+    let put = c .before .before .before .before .before .before .before .before .before .before .before .before .put in
+    let put-decimal = c .before .before .before .before .before .before .before .before .put-decimal in
+    let put2 = c .before .before .before .put2 in
+    refused-fits (args .refusal) (args .offset) (args .out .now) (fits .refusal .fits) (pre .0) (pre .1) .fourth (put .ensures) (put-decimal .ensures) (put2 .ensures)
 
 slice-aggregate-put-3 : tie.Need-slice-aggregate-put-3
 slice-aggregate-put-3 c = search needs
 
 put-requires-3 : tie.Need-put-requires-3
-put-requires-3 c κs = refused-fits (c .before .before .before .before .before .before .before .before .before .before .before .before .before .before .before .before .before .before .before .before .before .args .refusal) (c .before .before .before .before .before .before .before .before .before .before .before .before .before .before .before .before .before .before .before .before .before .args .offset) (c .before .before .before .before .before .before .before .before .before .before .before .before .before .before .before .before .before .before .before .before .before .args .out .now) (c .before .before .before .before .before .before .before .before .before .before .before .before .before .before .before .before .before .before .before .before .before .fits .refusal .fits) (c .before .before .before .before .before .before .before .before .before .before .before .before .before .before .before .before .before .before .before .before .before .pre .0) (c .before .before .before .before .before .before .before .before .before .before .before .before .before .before .before .before .before .before .before .before .before .pre .1) .fifth (c .before .before .before .before .before .before .before .before .before .before .before .before .before .before .before .before .before .put .ensures) (c .before .before .before .before .before .before .before .before .before .before .before .before .before .put-decimal .ensures) (c .before .before .before .before .before .before .before .before .put2 .ensures) (c .before .before .before .before .put-decimal2 .ensures)
+put-requires-3 c κs =
+    let args = c .before .before .before .before .before .before .before .before .before .before .before .before .before .before .before .before .before .before .before .before .before .args in
+    let fits = c .before .before .before .before .before .before .before .before .before .before .before .before .before .before .before .before .before .before .before .before .before .fits in
+    let pre = c .before .before .before .before .before .before .before .before .before .before .before .before .before .before .before .before .before .before .before .before .before .pre in
+    let put = c .before .before .before .before .before .before .before .before .before .before .before .before .before .before .before .before .before .put in
+    let put-decimal = c .before .before .before .before .before .before .before .before .before .before .before .before .before .put-decimal in
+    let put2 = c .before .before .before .before .before .before .before .before .put2 in
+    let put-decimal2 = c .before .before .before .before .put-decimal2 in
+    refused-fits (args .refusal) (args .offset) (args .out .now) (fits .refusal .fits) (pre .0) (pre .1) .fifth (put .ensures) (put-decimal .ensures) (put2 .ensures) (put-decimal2 .ensures)
 
 same-length : tie.Need-same-length
 same-length c = search needs
 
 returns : tie.Need-returns
-returns c = let p = refused-fits (c .before .before .before .before .before .before .before .before .before .before .before .before .before .before .before .before .before .before .before .before .before .before .before .before .args .refusal) (c .before .before .before .before .before .before .before .before .before .before .before .before .before .before .before .before .before .before .before .before .before .before .before .before .args .offset) (c .before .before .before .before .before .before .before .before .before .before .before .before .before .before .before .before .before .before .before .before .before .before .before .before .args .out .now) (c .before .before .before .before .before .before .before .before .before .before .before .before .before .before .before .before .before .before .before .before .before .before .before .before .fits .refusal .fits) (c .before .before .before .before .before .before .before .before .before .before .before .before .before .before .before .before .before .before .before .before .before .before .before .before .pre .0) (c .before .before .before .before .before .before .before .before .before .before .before .before .before .before .before .before .before .before .before .before .before .before .before .before .pre .1) .whole (c .before .before .before .before .before .before .before .before .before .before .before .before .before .before .before .before .before .before .before .before .put .ensures) (c .before .before .before .before .before .before .before .before .before .before .before .before .before .before .before .before .put-decimal .ensures) (c .before .before .before .before .before .before .before .before .before .before .before .put2 .ensures) (c .before .before .before .before .before .before .before .put-decimal2 .ensures) (c .before .before .put3 .ensures) in (p, omega (arith, p .next, refused-short (c .before .before .before .before .before .before .before .before .before .before .before .before .before .before .before .before .before .before .before .before .before .before .before .before .args .refusal) (c .before .before .before .before .before .before .before .before .before .before .before .before .before .before .before .before .before .before .before .before .before .before .before .before .args .offset) (c .before .before .before .before .before .before .before .before .before .before .before .before .before .before .before .before .before .before .before .before .before .before .before .before .fits .refusal .fits) (c .before .before .before .before .before .before .before .before .before .before .before .before .before .before .before .before .before .before .before .before .before .before .before .before .pre .0)))
+returns c =
+    let args = c .before .before .before .before .before .before .before .before .before .before .before .before .before .before .before .before .before .before .before .before .before .before .before .before .args in
+    let fits = c .before .before .before .before .before .before .before .before .before .before .before .before .before .before .before .before .before .before .before .before .before .before .before .before .fits in
+    let pre = c .before .before .before .before .before .before .before .before .before .before .before .before .before .before .before .before .before .before .before .before .before .before .before .before .pre in
+    let put = c .before .before .before .before .before .before .before .before .before .before .before .before .before .before .before .before .before .before .before .before .put in
+    let put-decimal = c .before .before .before .before .before .before .before .before .before .before .before .before .before .before .before .before .put-decimal in
+    let put2 = c .before .before .before .before .before .before .before .before .before .before .before .put2 in
+    let put-decimal2 = c .before .before .before .before .before .before .before .put-decimal2 in
+    let put3 = c .before .before .put3 in
+    let p = refused-fits (args .refusal) (args .offset) (args .out .now) (fits .refusal .fits) (pre .0) (pre .1) .whole (put .ensures) (put-decimal .ensures) (put2 .ensures) (put-decimal2 .ensures) (put3 .ensures) in
+    (p, omega (arith, p .next, refused-short (args .refusal) (args .offset) (fits .refusal .fits) (pre .0)))
 
 pub put-refused-spec : {M : Type 1} → statement M
 put-refused-spec =

@@ -51,22 +51,34 @@ add-length c =
 
 returns-4 : tie.Need-returns-4
 returns-4 c =
-    let args = c .before .before .before .before .before .before .before .before .before .before .args in
-    let code-head = c .before .before .before .before .before .before .before .before .code-head in
-    let if1 = c .before .before .before .before .before .before .if1 in
-    let if2 = c .before .before .before .before .before .if2 in
-    let code-body = c .before .before .before .code-body in
-    let if3 = c .before .before .if3 in
+    let the-args = c .before .before .before .before .before .before .before .before .before .before .args in
+    let the-code-head = c .before .before .before .before .before .before .before .before .code-head in
+    let the-if1 = c .before .before .before .before .before .before .if1 in
+    let the-if2 = c .before .before .before .before .before .if2 in
+    let the-code-body = c .before .before .before .code-body in
+    let the-if3 = c .before .before .if3 in
+    let args = the-args in
+    let code-head = the-code-head in
+    let if1 = the-if1 in
+    let if2 = the-if2 in
+    let code-body = the-code-body in
+    let if3 = the-if3 in
     body-samples _ (args .bytes .now) _ (code-head .ensures) (if1 .left) (if2 .left) _ (code-body .ensures) (if3 .left) _ (ap (λ (n : ℕ). code-head .result .length + n) (c .before .samples-length .ensures .0)) (c .if4 .taken)
 
 returns-5 : tie.Need-returns-5
 returns-5 c =
-    let args = c .before .before .before .before .before .before .before .before .before .before .args in
-    let code-head = c .before .before .before .before .before .before .before .before .code-head in
-    let if1 = c .before .before .before .before .before .before .if1 in
-    let if2 = c .before .before .before .before .before .if2 in
-    let code-body = c .before .before .before .code-body in
-    let if3 = c .before .before .if3 in
+    let the-args = c .before .before .before .before .before .before .before .before .before .before .args in
+    let the-code-head = c .before .before .before .before .before .before .before .before .code-head in
+    let the-if1 = c .before .before .before .before .before .before .if1 in
+    let the-if2 = c .before .before .before .before .before .if2 in
+    let the-code-body = c .before .before .before .code-body in
+    let the-if3 = c .before .before .if3 in
+    let args = the-args in
+    let code-head = the-code-head in
+    let if1 = the-if1 in
+    let if2 = the-if2 in
+    let code-body = the-code-body in
+    let if3 = the-if3 in
     body-done _ (args .bytes .now) _ (code-head .ensures) (if1 .left) (if2 .left) _ (code-body .ensures) (if3 .left) _ (ap (λ (n : ℕ). code-head .result .length + n) (c .before .samples-length .ensures .0)) (c .if4 .left)
 
 pub read-body-spec : {M : Type 1} → statement M

@@ -46,11 +46,16 @@ refused-requires c κs = search needs
 
 returns : tie.Need-returns Inv-loop μ-loop
 returns c =
-    let first-edition = c .before .before .before .before .before .before .before .before .first-edition in
-    let loop = c .before .before .before .before .before .before .before .loop in
-    let if1 = c .before .before .before .before .before .if1 in
-    let args = c .before .before .before .before .before .before .before .before .before .before .args in
-    let step = c .before .before .before .step in
+    let the-first-edition = c .before .before .before .before .before .before .before .before .first-edition in
+    let the-loop = c .before .before .before .before .before .before .before .loop in
+    let the-if1 = c .before .before .before .before .before .if1 in
+    let the-args = c .before .before .before .before .before .before .before .before .before .before .args in
+    let the-step = c .before .before .before .step in
+    let first-edition = the-first-edition in
+    let loop = the-loop in
+    let if1 = the-if1 in
+    let args = the-args in
+    let step = the-step in
     first-checks _ (first-edition .ensures) (answer-told (c .refused .result) _ _ (c .refused .ensures) (go-refused (loop .inv) (if1 .taken) (step-onward (args .sheet .now) (loop .state .offset) (step .ensures)) (c .before .if2 .taken)))
 
 loop-less : tie.Need-loop-less Inv-loop μ-loop
@@ -93,12 +98,18 @@ refused-requires-3 c κs = search needs
 
 returns-3 : tie.Need-returns-3 Inv-loop μ-loop
 returns-3 c =
-    let first-edition = c .before .before .before .before .before .before .before .before .before .before .first-edition in
-    let loop = c .before .before .before .before .before .before .before .before .before .loop in
-    let if1 = c .before .before .before .before .before .before .before .if1 in
-    let if3 = c .before .before .before .before .before .if3 in
-    let roots = c .before .before .before .roots in
-    let checked = c .before .before .before .before .checked in
+    let the-first-edition = c .before .before .before .before .before .before .before .before .before .before .first-edition in
+    let the-loop = c .before .before .before .before .before .before .before .before .before .loop in
+    let the-if1 = c .before .before .before .before .before .before .before .if1 in
+    let the-if3 = c .before .before .before .before .before .if3 in
+    let the-roots = c .before .before .before .roots in
+    let the-checked = c .before .before .before .before .checked in
+    let first-edition = the-first-edition in
+    let loop = the-loop in
+    let if1 = the-if1 in
+    let if3 = the-if3 in
+    let roots = the-roots in
+    let checked = the-checked in
     first-checks _ (first-edition .ensures) (answer-told (c .refused3 .result) _ _ (c .refused3 .ensures) (go-early (loop .inv) (if1 .left) (if3 .left) (λ e. c .before .if4 .taken (e ∙ sym (roots .ensures ∙ ap rootCount (checked .ensures))))))
 
 returns-4 : tie.Need-returns-4 Inv-loop μ-loop

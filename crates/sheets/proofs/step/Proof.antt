@@ -73,12 +73,18 @@ add-take-leaf c =
 
 take-leaf-requires : tie.Need-take-leaf-requires
 take-leaf-requires c κs =
-    let is-marked = c .before .before .before .before .before .before .before .before .is-marked in
-    let if1 = c .before .before .before .before .before .before .before .if1 in
-    let args = c .before .before .before .before .before .before .before .before .before .before .args in
-    let read-body = c .before .before .before .before .before .read-body in
-    let if2 = c .before .before .before .if2 in
-    let pre = c .before .before .before .before .before .before .before .before .before .before .pre in
+    let the-is-marked = c .before .before .before .before .before .before .before .before .is-marked in
+    let the-if1 = c .before .before .before .before .before .before .before .if1 in
+    let the-args = c .before .before .before .before .before .before .before .before .before .before .args in
+    let the-read-body = c .before .before .before .before .before .read-body in
+    let the-if2 = c .before .before .before .if2 in
+    let the-pre = c .before .before .before .before .before .before .before .before .before .before .pre in
+    let is-marked = the-is-marked in
+    let if1 = the-if1 in
+    let args = the-args in
+    let read-body = the-read-body in
+    let if2 = the-if2 in
+    let pre = the-pre in
     let marked = sym (is-marked .ensures) ∙ not-false _ (if1 .left) in
     let rest = part-marked _ _ (args .bytes .now) in
     step-ready _ _ (args .state) _ marked _ rest _ (read-body .ensures) (if2 .left) _ (c .before .position-of .ensures) (pre) (omega (arith, ap length (part-all (args .bytes .now) 2), length-drop 2 (args .bytes .now), marked-long _ _ marked)) _ refl

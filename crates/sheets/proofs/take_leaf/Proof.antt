@@ -35,13 +35,27 @@ stretch-requires : tie.Need-stretch-requires
 stretch-requires c κs = search needs
 
 add-root : tie.Need-add-root
-add-root c = omega (arith, c .before .before .before .before .before .before .before .before .before .before .before .before .before .before .before .pre .root-room, c .before .before .before .before .before .before .before .before .before .before .if3 .left)
+add-root c =
+    let pre = c .before .before .before .before .before .before .before .before .before .before .before .before .before .before .before .pre in
+    let if3 = c .before .before .before .before .before .before .before .before .before .before .if3 in
+    omega (arith, pre .root-room, if3 .left)
 
 returns-4 : tie.Need-returns-4
-returns-4 c = over (record { dimension-fits = (⊎-elim (λ w. λ n. w .2 .left) (λ w. λ n. absurd (n (w .left))) (c .before .before .before .before .before .before .before .before .before .before .before .before .before .if1 .came)); root-fits = c .before .before .before .before .before .before .before .before .before .before .if3 .left; start-fits = c .before .before .before .before .before .before .before .if4 .left }) (c .before .if5 .taken ∙ c .before .before .stretch .ensures ∙ ap (λ (d : ℕ). 2 ^ greatestDepth d) (c .before .before .before .checked .ensures)) refl
+returns-4 c =
+    let if1 = c .before .before .before .before .before .before .before .before .before .before .before .before .before .if1 in
+    let if3 = c .before .before .before .before .before .before .before .before .before .before .if3 in
+    let if4 = c .before .before .before .before .before .before .before .if4 in
+    let stretch = c .before .before .stretch in
+    let checked = c .before .before .before .checked in
+    over (record { dimension-fits = (⊎-elim (λ w. λ n. w .2 .left) (λ w. λ n. absurd (n (w .left))) (if1 .came)); root-fits = if3 .left; start-fits = if4 .left }) (c .before .if5 .taken ∙ stretch .ensures ∙ ap (λ (d : ℕ). 2 ^ greatestDepth d) (checked .ensures)) refl
 
 returns-5 : tie.Need-returns-5
-returns-5 c = on (record { dimension-fits = (⊎-elim (λ w. λ n. w .2 .left) (λ w. λ n. absurd (n (w .left))) (c .before .before .before .before .before .before .before .before .before .before .before .before .if1 .came)); root-fits = c .before .before .before .before .before .before .before .before .before .if3 .left; start-fits = c .before .before .before .before .before .before .if4 .left }) (λ e. c .if5 .left (e ∙ sym (c .before .stretch .ensures ∙ ap (λ (d : ℕ). 2 ^ greatestDepth d) (c .before .before .checked .ensures)))) refl
+returns-5 c =
+    let if1 = c .before .before .before .before .before .before .before .before .before .before .before .before .if1 in
+    let if3 = c .before .before .before .before .before .before .before .before .before .if3 in
+    let if4 = c .before .before .before .before .before .before .if4 in
+    let checked = c .before .before .checked in
+    on (record { dimension-fits = (⊎-elim (λ w. λ n. w .2 .left) (λ w. λ n. absurd (n (w .left))) (if1 .came)); root-fits = if3 .left; start-fits = if4 .left }) (λ e. c .if5 .left (e ∙ sym (c .before .stretch .ensures ∙ ap (λ (d : ℕ). 2 ^ greatestDepth d) (checked .ensures)))) refl
 
 pub take-leaf-spec : {M : Type 1} → statement M
 take-leaf-spec =

@@ -13,7 +13,7 @@ use Rattle.bisection.specs.Refusals.{done}
 use Rattle.bisection.specs.Codes.{codeOf}
 use Rattle.codes.specs.Fronts.Laws.{front-two}
 use Rattle.sheets.specs.declared.SheetAnswer.{SheetAnswer}
-use Rattle.sheets.specs.Forests.{Cell}
+use Rattle.sheets.specs.Forests.{TreeCell}
 use Rattle.sheets.specs.Sheets.{Records, none, more, GoodSheet, Begins, behindMark, bodyLength, recordLength, recordRefusal, Read, start, next, told, Checks, good, record-refused, not-next, ended-early, SheetIs, sheetMark, sampleWidth}
 use Rattle.sheets.specs.Theorems.Listing.{GoodCell, recordOf, IsRecord, record-read, record-passes, record-rest, two-behind, Listed, listed-empty, Cut, cut, CellsIn, cells-none, cells-more, records-listed, leaves-cells}
 
@@ -55,7 +55,7 @@ module _ (mark : List ℕ) (width : ℕ) where
         go (no l) ih = same a (read-same (omega arith) r r′) x (subst (λ (t : ℕ). Begins mark width (take t sheet)) q b)
 
     -- a good sheet is read to its end
-    read-all : {m : ℕ} → GoodSheet mark width sheet m → {d : ℕ} {cs : List Cell} {rest : List ℕ} {at n : ℕ} → CellsIn d cs → Records mark width d cs rest → Read mark width sheet at n → at ≤ length sheet → drop at sheet ≡ rest → Read mark width sheet (length sheet) (n + length cs)
+    read-all : {m : ℕ} → GoodSheet mark width sheet m → {d : ℕ} {cs : List TreeCell} {rest : List ℕ} {at n : ℕ} → CellsIn d cs → Records mark width d cs rest → Read mark width sheet at n → at ≤ length sheet → drop at sheet ≡ rest → Read mark width sheet (length sheet) (n + length cs)
     read-all g {at = at} {n = n} cells-none none r h e = subst (λ (k : ℕ). Read mark width sheet (length sheet) k) zero-more (subst (λ (a : ℕ). Read mark width sheet a n) whole r)
       where
         whole : at ≡ length sheet
@@ -130,7 +130,7 @@ module _ (mark : List ℕ) (width : ℕ) where
 
     -- the leaves of a good sheet are determined by its bytes
     pub good-cells : {m m′ : ℕ} (g : GoodSheet mark width sheet m) (g′ : GoodSheet mark width sheet m′) → g .cells ≡ g′ .cells
-    good-cells g g′ = k .is ∙ ap (λ (l : List Cell). g′ .cells ++ l) (listed-empty mark width (k .listed) refl) ∙ append-nil (g′ .cells)
+    good-cells g g′ = k .is ∙ ap (λ (l : List TreeCell). g′ .cells ++ l) (listed-empty mark width (k .listed) refl) ∙ append-nil (g′ .cells)
       where
         listed : {m : ℕ} (g : GoodSheet mark width sheet m) → Listed mark width (g .cells) sheet
         listed g = records-listed (leaves-cells (g .dimension) (g .is-dimension) (g .leaves)) (g .records)

@@ -7,7 +7,7 @@ use mathlib.Core.List.{List, [], _∷_, _++_}
 use Prim.Native.Nat.{ℕ, zero, suc, _+_, _≤_}
 use native.Mathlib.Omega.{arith}
 use lib.ListN.{length, length-append}
-use Rattle.sheets.specs.Forests.{Cell, cell, childOf, Within, Leaves, rootCells}
+use Rattle.sheets.specs.Forests.{TreeCell, treeCell, childOf, NoDeeper, Leaves, rootCells}
 use Rattle.sheets.specs.Theorems.Todo.{Next, here, down, Run, stop, step, begins-run, run-begins, good-run, run-good}
 
 -- the step as a byte, and the path as bytes with its first step first
@@ -19,10 +19,10 @@ steps [] = []
 steps (b ∷ p) = steps p ++ bit b ∷ []
 
 -- the cells after the leaf p of r, and then cs
-unfoldable pub after : List ℕ → List Bool → List Cell → List Cell
+unfoldable pub after : List ℕ → List Bool → List TreeCell → List TreeCell
 after r [] cs = cs
 after r (true ∷ p) cs = after r p cs
-after r (false ∷ p) cs = cell r (steps (true ∷ p)) ∷ after r p cs
+after r (false ∷ p) cs = treeCell r (steps (true ∷ p)) ∷ after r p cs
 
 -- the frontier: the roots from its own on, and its path
 pub record State : Type 0 where
@@ -32,8 +32,8 @@ pub record State : Type 0 where
 abbrev pub state : List (List ℕ) → List Bool → State
 state rs p = record { roots = rs; path = p }
 
-unfoldable pub todo : State → List Cell
-todo s = elim (s .roots) [ [] ↦ [] | r ∷ rs ↦ cell r (steps (s .path)) ∷ after r (s .path) (rootCells rs) ]
+unfoldable pub todo : State → List TreeCell
+todo s = elim (s .roots) [ [] ↦ [] | r ∷ rs ↦ treeCell r (steps (s .path)) ∷ after r (s .path) (rootCells rs) ]
 
 -- drop the 1s at the end and turn the last 0 into 1; or the next root
 unfoldable pub advance : List ℕ → List (List ℕ) → List Bool → State
@@ -47,9 +47,9 @@ zeros zero p = p
 zeros (suc n) p = zeros n (false ∷ p)
 
 -- each leaf in turn is the frontier followed by zeros
-pub data Follows : State → List Cell → State → Type 0 where
+pub data Follows : State → List TreeCell → State → Type 0 where
   end : {s : State} → Follows s [] s
-  leaf : {r : List ℕ} {rs : List (List ℕ)} {p : List Bool} {ls : List Cell} {s : State} (n : ℕ) → Follows (advance r rs (zeros n p)) ls s → Follows (state (r ∷ rs) p) (cell r (steps (zeros n p)) ∷ ls) s
+  leaf : {r : List ℕ} {rs : List (List ℕ)} {p : List Bool} {ls : List TreeCell} {s : State} (n : ℕ) → Follows (advance r rs (zeros n p)) ls s → Follows (state (r ∷ rs) p) (treeCell r (steps (zeros n p)) ∷ ls) s
 
 todo-advance : (r : List ℕ) (rs : List (List ℕ)) (p : List Bool) → todo (advance r rs p) ≡ after r p (rootCells rs)
 unfolding todo advance after rootCells steps
@@ -58,41 +58,41 @@ todo-advance r (s ∷ rs) [] = refl
 todo-advance r rs (true ∷ p) = todo-advance r rs p
 todo-advance r rs (false ∷ p) = refl
 
-next-zeros : (n : ℕ) (r : List ℕ) (p : List Bool) (cs : List Cell) → Next (cell r (steps p) ∷ after r p cs) (cell r (steps (zeros n p))) (after r (zeros n p) cs)
+next-zeros : (n : ℕ) (r : List ℕ) (p : List Bool) (cs : List TreeCell) → Next (treeCell r (steps p) ∷ after r p cs) (treeCell r (steps (zeros n p))) (after r (zeros n p) cs)
 unfolding zeros after steps
 next-zeros zero r p cs = here
 next-zeros (suc n) r p cs = down (next-zeros n r (false ∷ p) cs)
 
-pub record Zeros (r : List ℕ) (p : List Bool) (cs : List Cell) (c : Cell) (left : List Cell) : Type 0 where
+pub record Zeros (r : List ℕ) (p : List Bool) (cs : List TreeCell) (c : TreeCell) (left : List TreeCell) : Type 0 where
   pub n : ℕ
-  pub is : c ≡ cell r (steps (zeros n p))
+  pub is : c ≡ treeCell r (steps (zeros n p))
   pub leaves : left ≡ after r (zeros n p) cs
 
-zeros-next : {r : List ℕ} (p : List Bool) {cs ds : List Cell} {c : Cell} {left : List Cell} → ds ≡ cell r (steps p) ∷ after r p cs → Next ds c left → Zeros r p cs c left
+zeros-next : {r : List ℕ} (p : List Bool) {cs ds : List TreeCell} {c : TreeCell} {left : List TreeCell} → ds ≡ treeCell r (steps p) ∷ after r p cs → Next ds c left → Zeros r p cs c left
 unfolding zeros after steps
 zeros-next {r} p {cs} e (here {c = c} {cs = cs′}) = record { n = zero; is = cc; leaves = cc }
 zeros-next {r} p {cs} e (down {h = h} {cs = cs′} w) =
-    let a : h ≡ cell r (steps p) = cc in
+    let a : h ≡ treeCell r (steps p) = cc in
     let b : cs′ ≡ after r p cs = cc in
     let z = zeros-next {r = r} (false ∷ p) {cs = cs} (rw (a, b) refl) w in record { n = suc (z .n); is = z .is; leaves = z .leaves }
 
-pub follows-run : {s s′ : State} {ls : List Cell} → Follows s ls s′ → Run (todo s) ls (todo s′)
+pub follows-run : {s s′ : State} {ls : List TreeCell} → Follows s ls s′ → Run (todo s) ls (todo s′)
 unfolding todo
 follows-run end = stop
 follows-run (leaf {r = r} {rs = rs} {p = p} n f) = step (next-zeros n r p (rootCells rs)) (rw todo-advance at (follows-run f))
 
-no-next : {c : Cell} {left : List Cell} → Next [] c left → ⊥
+no-next : {c : TreeCell} {left : List TreeCell} → Next [] c left → ⊥
 no-next = elim [ ]
 
-leaf-at : {r : List ℕ} {rs : List (List ℕ)} {p : List Bool} {c : Cell} {ls : List Cell} {s : State} (n : ℕ) → c ≡ cell r (steps (zeros n p)) → Follows (advance r rs (zeros n p)) ls s → Follows (state (r ∷ rs) p) (c ∷ ls) s
+leaf-at : {r : List ℕ} {rs : List (List ℕ)} {p : List Bool} {c : TreeCell} {ls : List TreeCell} {s : State} (n : ℕ) → c ≡ treeCell r (steps (zeros n p)) → Follows (advance r rs (zeros n p)) ls s → Follows (state (r ∷ rs) p) (c ∷ ls) s
 leaf-at n e f = rw e (leaf n f)
 
-pub record Followed (s : State) (ls left : List Cell) : Type 0 where
+pub record Followed (s : State) (ls left : List TreeCell) : Type 0 where
   pub to : State
   pub by : Follows s ls to
   pub todo-left : left ≡ todo to
 
-pub run-follows : (rs : List (List ℕ)) (p : List Bool) {ls cs left : List Cell} → cs ≡ todo (state rs p) → Run cs ls left → Followed (state rs p) ls left
+pub run-follows : (rs : List (List ℕ)) (p : List Bool) {ls cs left : List TreeCell} → cs ≡ todo (state rs p) → Run cs ls left → Followed (state rs p) ls left
 unfolding todo
 run-follows rs p e stop = record { to = state rs p; by = end; todo-left = e }
 run-follows [] p e (step n w) = absurd (no-next (rw e at n))
@@ -118,21 +118,21 @@ roots-todo (r ∷ rs) = refl
 -- the rule: leaves begin those of a forest exactly when they follow the frontier from the first root's empty path,
 -- and are those of a forest exactly when no root is then left
 module _ {roots : List (List ℕ)} {D : ℕ} where
-  pub begins-follows : (ls rest : List Cell) → Leaves roots D (ls ++ rest) → (s : State) × Follows (state roots []) ls s
+  pub begins-follows : (ls rest : List TreeCell) → Leaves roots D (ls ++ rest) → (s : State) × Follows (state roots []) ls s
   begins-follows ls rest g =
       let a = begins-run ls rest g in
       let f = run-follows roots [] (roots-todo roots) (a .1) in
       (f .to, f .by)
 
-  pub follows-begins : {ls : List Cell} {s : State} → Follows (state roots []) ls s → Within D ls → (rest : List Cell) × Leaves roots D (ls ++ rest)
+  pub follows-begins : {ls : List TreeCell} {s : State} → Follows (state roots []) ls s → NoDeeper D ls → (rest : List TreeCell) × Leaves roots D (ls ++ rest)
   follows-begins {s = s} f w = (todo s, run-begins (rw roots-todo (follows-run f)) w)
 
-  pub good-follows : {ls : List Cell} → Leaves roots D ls → (s : State) × Follows (state roots []) ls s × (s .roots ≡ [])
+  pub good-follows : {ls : List TreeCell} → Leaves roots D ls → (s : State) × Follows (state roots []) ls s × (s .roots ≡ [])
   good-follows g =
       let f = run-follows roots [] (roots-todo roots) (good-run g) in
       (f .to, f .by, no-roots (f .to) (f .todo-left))
 
-  pub follows-good : {ls : List Cell} {p : List Bool} → Follows (state roots []) ls (state [] p) → Within D ls → Leaves roots D ls
+  pub follows-good : {ls : List TreeCell} {p : List Bool} → Follows (state roots []) ls (state [] p) → NoDeeper D ls → Leaves roots D ls
   unfolding todo
   follows-good f w = run-good (rw roots-todo (follows-run f)) w
 
@@ -147,7 +147,7 @@ steps-length [] = refl
 steps-length (b ∷ p) = simp length-append (omega (arith, steps-length p))
 
 -- the frontier after a list of leaves is one
-follows-same : {s s′ t t′ : State} {ls ls′ : List Cell} → s ≡ s′ → ls ≡ ls′ → Follows s ls t → Follows s′ ls′ t′ → t ≡ t′
+follows-same : {s s′ t t′ : State} {ls ls′ : List TreeCell} → s ≡ s′ → ls ≡ ls′ → Follows s ls t → Follows s′ ls′ t′ → t ≡ t′
 follows-same e f end end = e
 follows-same e f end (leaf n g) = absurd (let z : _≡_ {A = ℕ} 0 1 = cc in omega arith)
 follows-same e f (leaf n g) end = absurd (let z : _≡_ {A = ℕ} 0 1 = cc in omega arith)
@@ -156,31 +156,31 @@ follows-same e f (leaf {r = r} {rs = rs} {p = p} {ls = ls} n g) (leaf {r = r′}
     let q : p ≡ p′ = ap (λ (s : State). s .path) e in
     let a : r ≡ r′ = cc in
     let b : rs ≡ rs′ = cc in
-    let g0 : cell r (steps (zeros n p)) ≡ cell r′ (steps (zeros n′ p′)) = cc in
-    let h : steps (zeros n p) ≡ steps (zeros n′ p′) = ap (λ (c : Cell). c .path) g0 in
+    let g0 : treeCell r (steps (zeros n p)) ≡ treeCell r′ (steps (zeros n′ p′)) = cc in
+    let h : steps (zeros n p) ≡ steps (zeros n′ p′) = ap (λ (c : TreeCell). c .path) g0 in
     let m : n ≡ n′ = omega (arith, ap length h, ap length q, steps-length (zeros n p), steps-length (zeros n′ p′), zeros-length n p, zeros-length n′ p′) in
     follows-same (rw (a, b, q, m) refl) (cc) g g′
 
-pub follows-one : {s t u : State} {ls : List Cell} → Follows s ls t → Follows s ls u → t ≡ u
+pub follows-one : {s t u : State} {ls : List TreeCell} → Follows s ls t → Follows s ls u → t ≡ u
 follows-one f g = follows-same refl refl f g
 
-pub record Split (s : State) (ls ms : List Cell) (u : State) : Type 0 where
+pub record Split (s : State) (ls ms : List TreeCell) (u : State) : Type 0 where
   pub middle : State
   pub front : Follows s ls middle
   pub back : Follows middle ms u
 
-split-at : (ls ms : List Cell) {s u : State} {all : List Cell} → all ≡ ls ++ ms → Follows s all u → Split s ls ms u
+split-at : (ls ms : List TreeCell) {s u : State} {all : List TreeCell} → all ≡ ls ++ ms → Follows s all u → Split s ls ms u
 split-at [] ms {s} e f = record { middle = s; front = end; back = rw e at f }
 split-at (l ∷ ls) ms e end = absurd (let z : _≡_ {A = ℕ} 0 1 = cc in omega arith)
 split-at (l ∷ ls) ms {u = u} e (leaf {r = r} {rs = rs} {p = p} {ls = ks} n f) =
-    let a : l ≡ cell r (steps (zeros n p)) = cc in
+    let a : l ≡ treeCell r (steps (zeros n p)) = cc in
     let b : ks ≡ ls ++ ms = cc in
     let k = split-at ls ms b f in
     record { middle = k .middle; front = leaf-at n a (k .front); back = k .back }
 
-pub follows-split : (ls ms : List Cell) {s u : State} → Follows s (ls ++ ms) u → Split s ls ms u
+pub follows-split : (ls ms : List TreeCell) {s u : State} → Follows s (ls ++ ms) u → Split s ls ms u
 follows-split ls ms f = split-at ls ms refl f
 
-pub follows-join : {s t u : State} {ls ms : List Cell} → Follows s ls t → Follows t ms u → Follows s (ls ++ ms) u
+pub follows-join : {s t u : State} {ls ms : List TreeCell} → Follows s ls t → Follows t ms u → Follows s (ls ++ ms) u
 follows-join end g = g
 follows-join (leaf n f) g = leaf n (follows-join f g)

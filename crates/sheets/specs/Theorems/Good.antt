@@ -9,7 +9,7 @@ use Rattle.dimension.specs.Sizes.{greatestDepth}
 use Rattle.bisection.specs.Roots.{roots}
 use Rattle.positions.specs.RootNumbers.{roots-some}
 use Rattle.positions.specs.DictionaryOrder.{roots-rise}
-use Rattle.sheets.specs.Forests.{Cell, rootCells, Leaves, InOrder}
+use Rattle.sheets.specs.Forests.{TreeCell, rootCells, Leaves, InOrder}
 use Rattle.sheets.specs.Sheets.{GoodSheet}
 use Rattle.sheets.specs.Theorems.Frontier.{State, state, Follows, end, good-follows, follows-one}
 use Rattle.sheets.specs.Theorems.Listing.{CellsIn, same-dimension, leaves-cells}
@@ -27,7 +27,7 @@ module _ {mark : List ℕ} {width : ℕ} {sheet : List ℕ} {n : ℕ} (g : GoodS
   pub good-some : 0 < length (g .cells)
   good-some = go (g .cells) (g .leaves)
     where
-      go : (cs : List Cell) → Leaves (roots (g .dimension)) (greatestDepth (g .dimension)) cs → 0 < length cs
+      go : (cs : List TreeCell) → Leaves (roots (g .dimension)) (greatestDepth (g .dimension)) cs → 0 < length cs
       go [] v = let f = good-follows v in let e : roots (g .dimension) ≡ [] = ap (λ (s : State). s .roots) (follows-one end (f .1)) ∙ f .2 in absurd (omega (arith, roots-some (g .dimension), ap length e))
       go (c ∷ cs) v = omega arith
 

@@ -18,30 +18,30 @@ use Rattle.bisection.specs.Theorems.CodePaths.{rootOf, pathOf, code-path, code-
 use Rattle.codes.specs.Fronts.{frontDimension, frontCode}
 use Rattle.codes.specs.Fronts.Laws.{code-two, front-root}
 use Rattle.positions.specs.RootNumbers.{roots-good, roots-length}
-use Rattle.sheets.specs.Forests.{Cell, cell, Within, within-none, within-more, Leaves}
+use Rattle.sheets.specs.Forests.{TreeCell, treeCell, NoDeeper, no-deeper-none, no-deeper-more, Leaves}
 use Rattle.sheets.specs.Sheets.{beginsWith, behindMark, isMarked, bodyLength, recordLength, unmarkedRefusal, recordRefusal, Records, none, more}
 use Rattle.sheets.specs.Theorems.Frontier.{State, state, advance, zeros, steps, Follows, end, leaf, good-follows}
 use Rattle.sheets.specs.Theorems.Line.{steps-good}
 use Rattle.sheets.specs.Theorems.Reading.{begins-is, is-begins, Passed, passed, code-in, unmarked-passes, rest-behind}
 
 -- a cell with a good root and a good path
-pub record GoodCell (c : Cell) : Type 0 where
+pub record GoodCell (c : TreeCell) : Type 0 where
   pub good-root : GoodRoot (c .root)
   pub good-path : GoodPath (length (c .root)) (c .path)
 
-pub code-of-cell : {c : Cell} → GoodCell c → IsCodeOf (codeOf (c .root) (c .path)) (c .root) (c .path)
+pub code-of-cell : {c : TreeCell} → GoodCell c → IsCodeOf (codeOf (c .root) (c .path)) (c .root) (c .path)
 code-of-cell g = record { good-root = g .good-root; good-path = g .good-path; is = refl }
 
-passes-cell : {c : Cell} → GoodCell c → codeRefusal (codeOf (c .root) (c .path)) ≡ done
+passes-cell : {c : TreeCell} → GoodCell c → codeRefusal (codeOf (c .root) (c .path)) ≡ done
 passes-cell {c} g = code-passes (c .root) (c .path) (g .good-root) (g .good-path)
 
 -- the record of a cell, and any rest
-abbrev pub recordOf : List ℕ → Cell → List ℕ → List ℕ → List ℕ
+abbrev pub recordOf : List ℕ → TreeCell → List ℕ → List ℕ → List ℕ
 recordOf mark c samples rest = mark ++ (codeOf (c .root) (c .path) ++ (samples ++ rest))
 
 -- a record that passes its own tests is the record of a cell
 pub record IsRecord (mark : List ℕ) (width : ℕ) (bs : List ℕ) : Type 0 where
-  pub of : Cell
+  pub of : TreeCell
   pub good : GoodCell of
   pub code-is : frontCode (behindMark mark bs) ≡ codeOf (of .root) (of .path)
   pub samples : List ℕ
@@ -53,12 +53,13 @@ module _ (mark : List ℕ) (width : ℕ) where
   pub record-read : (bs : List ℕ) → recordRefusal mark width bs ≡ done → IsRecord mark width bs
   unfolding recordRefusal isMarked
   record-read bs e = record {
-    of = cell (rootOf code) (pathOf code);
+    of = treeCell (rootOf code) (pathOf code);
     good = record { good-root = c .good-root; good-path = c .good-path };
     code-is = c .is;
     samples = p .samples;
     size = p .size ∙ ap (λ (d : ℕ). width * suc d) (sym (p .dimension-is) ∙ front-root c);
-    is = unfold behindMark recordLength in (marked ∙ ap (λ (l : List ℕ). mark ++ l) (p .is ∙ ap (λ (l : List ℕ). l ++ (p .samples ++ drop (bodyLength width (drop (length mark) bs)) (drop (length mark) bs))) (c .is) ∙ ap (λ (l : List ℕ). codeOf (rootOf code) (pathOf code) ++ (p .samples ++ l)) (drop-drop (bodyLength width (drop (length mark) bs)) (length mark) bs)));
+    is = unfold behindMark recordLength in (marked ∙ ap (λ (l : List ℕ). mark ++ l) (p .is ∙ ap (λ (l : List ℕ). l ++ (p .samples ++ drop size (drop (length mark) bs))) (c .is)
+        ∙ ap (λ (l : List ℕ). codeOf (rootOf code) (pathOf code) ++ (p .samples ++ l)) (drop-drop size (length mark) bs)));
     inside = unfold recordLength behindMark in omega (arith, p .inside, length-drop (length mark) bs, marked-length);
   }
     where
@@ -74,6 +75,9 @@ module _ (mark : List ℕ) (width : ℕ) where
       p : Passed width (behindMark mark bs)
       p = passed width (behindMark mark bs) (held-at _ tt e 1)
 
+      size : ℕ
+      size = bodyLength width (drop (length mark) bs)
+
       code : List ℕ
       code = frontCode (behindMark mark bs)
 
@@ -81,7 +85,7 @@ module _ (mark : List ℕ) (width : ℕ) where
       c = code-path (frontCode (behindMark mark bs)) (p .code)
 
   -- the record of a cell passes its own tests
-  module _ (c : Cell) (g : GoodCell c) (samples rest : List ℕ) (size : length samples ≡ width * suc (length (c .root))) where
+  module _ (c : TreeCell) (g : GoodCell c) (samples rest : List ℕ) (size : length samples ≡ width * suc (length (c .root))) where
     abbrev it : List ℕ
     it = codeOf (c .root) (c .path)
 
@@ -97,10 +101,13 @@ module _ (mark : List ℕ) (width : ℕ) where
 
     pub record-passes : recordRefusal mark width (recordOf mark c samples rest) ≡ done
     unfolding recordRefusal isMarked
-    record-passes = first-is (holds (and-both (beginsWith mark (recordOf mark c samples rest)) (leb 2 (length (behindMark mark (recordOf mark c samples rest)))) (is-begins mark (it ++ (samples ++ rest))) two) (past (ap (unmarkedRefusal width) behind ∙ unmarked-passes width it samples rest (passes-cell g) size-as) all-hold))
+    record-passes = first-is (holds marked (past (ap (unmarkedRefusal width) behind ∙ unmarked-passes width it samples rest (passes-cell g) size-as) all-hold))
       where
         two : leb 2 (length (behindMark mark (recordOf mark c samples rest))) ≡ true
         two = rw behind (le-leb 2 (length (it ++ (samples ++ rest))) two-behind)
+
+        marked : (beginsWith mark (recordOf mark c samples rest) && leb 2 (length (behindMark mark (recordOf mark c samples rest)))) ≡ true
+        marked = and-both (beginsWith mark (recordOf mark c samples rest)) (leb 2 (length (behindMark mark (recordOf mark c samples rest)))) (is-begins mark (it ++ (samples ++ rest))) two
 
     pub record-code : frontCode (behindMark mark (recordOf mark c samples rest)) ≡ it
     record-code = ap frontCode behind ∙ code-in width it samples rest (passes-cell g) size-as
@@ -113,7 +120,7 @@ module _ (mark : List ℕ) (width : ℕ) where
         last = unfold behindMark in ap (λ (l : List ℕ). drop (bodyLength width l) l) (unfold behindMark in behind)
 
   -- a record is that of one cell, and its rest is one
-  same-record : (c c′ : Cell) → GoodCell c → GoodCell c′ → (s s′ r r′ : List ℕ) → length s ≡ width * suc (length (c .root)) → length s′ ≡ width * suc (length (c′ .root)) → recordOf mark c s r ≡ recordOf mark c′ s′ r′ → (c ≡ c′) × (r ≡ r′)
+  same-record : (c c′ : TreeCell) → GoodCell c → GoodCell c′ → (s s′ r r′ : List ℕ) → length s ≡ width * suc (length (c .root)) → length s′ ≡ width * suc (length (c′ .root)) → recordOf mark c s r ≡ recordOf mark c′ s′ r′ → (c ≡ c′) × (r ≡ r′)
   same-record c c′ g g′ s s′ r r′ z z′ e = (λ i. record { root = o .0 i; path = o .1 i }, sym (record-rest c g s r z) ∙ ap (λ (l : List ℕ). drop (recordLength mark width l) l) e ∙ record-rest c′ g′ s′ r′ z′)
     where
       codes : codeOf (c .root) (c .path) ≡ codeOf (c′ .root) (c′ .path)
@@ -122,78 +129,78 @@ module _ (mark : List ℕ) (width : ℕ) where
       o : (c .root ≡ c′ .root) × (c .path ≡ c′ .path)
       o = one-path (code-of-cell g) (record { good-root = g′ .good-root; good-path = g′ .good-path; is = codes })
 
-  pub data Listed : List Cell → List ℕ → Type 0 where
+  pub data Listed : List TreeCell → List ℕ → Type 0 where
     listed-none : Listed [] []
-    listed-more : {c : Cell} {cs : List Cell} {rest sheet : List ℕ} → GoodCell c → (samples : List ℕ) → length samples ≡ width * suc (length (c .root)) → sheet ≡ recordOf mark c samples rest → Listed cs rest → Listed (c ∷ cs) sheet
+    listed-more : {c : TreeCell} {cs : List TreeCell} {rest sheet : List ℕ} → GoodCell c → (samples : List ℕ) → length samples ≡ width * suc (length (c .root)) → sheet ≡ recordOf mark c samples rest → Listed cs rest → Listed (c ∷ cs) sheet
 
-  pub record Cut (cs front : List Cell) (rest : List ℕ) : Type 0 where
-    pub behind : List Cell
+  pub record Cut (cs front : List TreeCell) (rest : List ℕ) : Type 0 where
+    pub behind : List TreeCell
     pub is : cs ≡ front ++ behind
     pub listed : Listed behind rest
 
   regroup : (a b c d : List ℕ) (e : List ℕ) → (a ++ (b ++ (c ++ d))) ++ e ≡ a ++ (b ++ (c ++ (d ++ e)))
   regroup a b c d e = simp append-assoc
 
-  not-empty : (c : Cell) → GoodCell c → (samples rest : List ℕ) → [] ≡ recordOf mark c samples rest → ⊥
+  not-empty : (c : TreeCell) → GoodCell c → (samples rest : List ℕ) → [] ≡ recordOf mark c samples rest → ⊥
   not-empty c g samples rest e = omega (arith, ap length e, length-append mark (codeOf (c .root) (c .path) ++ (samples ++ rest)), length-append (codeOf (c .root) (c .path)) (samples ++ rest), code-two (codeOf (c .root) (c .path)) (passes-cell g))
 
-  pub listed-empty : {cs : List Cell} {s : List ℕ} → Listed cs s → s ≡ [] → cs ≡ []
+  pub listed-empty : {cs : List TreeCell} {s : List ℕ} → Listed cs s → s ≡ [] → cs ≡ []
   listed-empty listed-none e = refl
   listed-empty (listed-more {c = c} {rest = r} g smp z q l) e = absurd (not-empty c g smp r (sym e ∙ q))
 
-  pub cut : {cs front : List Cell} {s f : List ℕ} (rest : List ℕ) → Listed front f → Listed cs s → s ≡ f ++ rest → Cut cs front rest
+  pub cut : {cs front : List TreeCell} {s f : List ℕ} (rest : List ℕ) → Listed front f → Listed cs s → s ≡ f ++ rest → Cut cs front rest
   cut {cs} rest listed-none l e = record { behind = cs; is = refl; listed = subst (Listed cs) e l }
   cut rest (listed-more {c = c} {rest = r} g smp z q l) listed-none e = absurd (not-empty c g smp (r ++ rest) (e ∙ ap (λ (x : List ℕ). x ++ rest) q ∙ regroup mark (codeOf (c .root) (c .path)) smp r rest))
   cut rest (listed-more {c = c} {cs = fs} {rest = r} g smp z q l) (listed-more {c = c′} {cs = cs′} {rest = r′} g′ smp′ z′ q′ l′) e =
       let o = same-record c′ c g′ g smp′ smp r′ (r ++ rest) z′ z (sym q′ ∙ e ∙ ap (λ (x : List ℕ). x ++ rest) q ∙ regroup mark (codeOf (c .root) (c .path)) smp r rest) in
       let k = cut rest l l′ (o .1) in
-      record { behind = k .behind; is = ap (λ (x : Cell). x ∷ cs′) (o .0) ∙ ap (λ (x : List Cell). c ∷ x) (k .is); listed = k .listed }
+      record { behind = k .behind; is = ap (λ (x : TreeCell). x ∷ cs′) (o .0) ∙ ap (λ (x : List TreeCell). c ∷ x) (k .is); listed = k .listed }
 
-  pub listed-join : {cs ds : List Cell} {a b : List ℕ} → Listed cs a → Listed ds b → Listed (cs ++ ds) (a ++ b)
+  pub listed-join : {cs ds : List TreeCell} {a b : List ℕ} → Listed cs a → Listed ds b → Listed (cs ++ ds) (a ++ b)
   listed-join listed-none m = m
   listed-join {b = b} (listed-more {c = c} {rest = r} g smp z q l) m = listed-more g smp z (ap (λ (x : List ℕ). x ++ b) q ∙ regroup mark (codeOf (c .root) (c .path)) smp r b) (listed-join l m)
 
 -- cells of one dimension
-pub data CellsIn (d : ℕ) : List Cell → Type 0 where
+pub data CellsIn (d : ℕ) : List TreeCell → Type 0 where
   cells-none : CellsIn d []
-  cells-more : {c : Cell} {cs : List Cell} → GoodCell c → length (c .root) ≡ d → CellsIn d cs → CellsIn d (c ∷ cs)
+  cells-more : {c : TreeCell} {cs : List TreeCell} → GoodCell c → length (c .root) ≡ d → CellsIn d cs → CellsIn d (c ∷ cs)
 
-pub cells-join : {d : ℕ} {cs ds : List Cell} → CellsIn d cs → CellsIn d ds → CellsIn d (cs ++ ds)
+pub cells-join : {d : ℕ} {cs ds : List TreeCell} → CellsIn d cs → CellsIn d ds → CellsIn d (cs ++ ds)
 cells-join cells-none m = m
 cells-join (cells-more g e l) m = cells-more g e (cells-join l m)
 
-pub cells-front : {d : ℕ} (cs ds : List Cell) → CellsIn d (cs ++ ds) → CellsIn d cs
+pub cells-front : {d : ℕ} (cs ds : List TreeCell) → CellsIn d (cs ++ ds) → CellsIn d cs
 cells-front [] ds l = cells-none
 cells-front (c ∷ cs) ds (cells-more g e l) = cells-more g e (cells-front cs ds l)
 
 -- cells of one dimension have no other
-pub same-dimension : {d d′ : ℕ} {cs : List Cell} → 0 < length cs → CellsIn d cs → CellsIn d′ cs → d ≡ d′
+pub same-dimension : {d d′ : ℕ} {cs : List TreeCell} → 0 < length cs → CellsIn d cs → CellsIn d′ cs → d ≡ d′
 same-dimension h cells-none l = absurd (omega arith)
 same-dimension h (cells-more g e l) (cells-more g′ e′ l′) = sym e ∙ e′
 
-pub cells-within : {d : ℕ} {cs : List Cell} → CellsIn d cs → Within (greatestDepth d) cs
-cells-within cells-none = within-none
-cells-within (cells-more {c = c} g e l) = within-more {c = c} (subst (λ (n : ℕ). length (c .path) ≤ greatestDepth n) e (g .good-path .depth)) (cells-within l)
+pub cells-within : {d : ℕ} {cs : List TreeCell} → CellsIn d cs → NoDeeper (greatestDepth d) cs
+cells-within cells-none = no-deeper-none
+cells-within (cells-more {c = c} g e l) = no-deeper-more {c = c} (subst (λ (n : ℕ). length (c .path) ≤ greatestDepth n) e (g .good-path .depth)) (cells-within l)
 
 -- every list of cells has records
-pub record Written (mark : List ℕ) (width d : ℕ) (cs : List Cell) : Type 0 where
+pub record Written (mark : List ℕ) (width d : ℕ) (cs : List TreeCell) : Type 0 where
   pub sheet : List ℕ
   pub records : Records mark width d cs sheet
 
-pub write : (mark : List ℕ) (width d : ℕ) (cs : List Cell) → Written mark width d cs
+pub write : (mark : List ℕ) (width d : ℕ) (cs : List TreeCell) → Written mark width d cs
 write mark width d [] = record { sheet = []; records = none }
 write mark width d (c ∷ cs) = let w = write mark width d cs in record { sheet = recordOf mark c (replicate (width * suc d) 0) (w .sheet); records = more (replicate (width * suc d) 0) (length-replicate {A = ℕ} (width * suc d) 0) refl (w .records) }
 
 module _ {mark : List ℕ} {width d : ℕ} where
-  pub records-listed : {cs : List Cell} {s : List ℕ} → CellsIn d cs → Records mark width d cs s → Listed mark width cs s
+  pub records-listed : {cs : List TreeCell} {s : List ℕ} → CellsIn d cs → Records mark width d cs s → Listed mark width cs s
   records-listed cells-none none = listed-none
   records-listed (cells-more g e l) (more smp z q r) = listed-more g smp (z ∙ ap (λ (n : ℕ). width * suc n) (sym e)) q (records-listed l r)
 
-  pub listed-records : {cs : List Cell} {s : List ℕ} → CellsIn d cs → Listed mark width cs s → Records mark width d cs s
+  pub listed-records : {cs : List TreeCell} {s : List ℕ} → CellsIn d cs → Listed mark width cs s → Records mark width d cs s
   listed-records cells-none listed-none = none
   listed-records (cells-more g′ e l) (listed-more g smp z q r) = more smp (z ∙ ap (λ (n : ℕ). width * suc n) e) q (listed-records l r)
 
-  pub records-join : {cs ds : List Cell} {a b : List ℕ} → Records mark width d cs a → Records mark width d ds b → Records mark width d (cs ++ ds) (a ++ b)
+  pub records-join : {cs ds : List TreeCell} {a b : List ℕ} → Records mark width d cs a → Records mark width d ds b → Records mark width d (cs ++ ds) (a ++ b)
   records-join none m = m
   records-join {b = b} (more {c = c} {rest = r} smp z q l) m = more smp z (ap (λ (x : List ℕ). x ++ b) q ∙ regroup mark width (mark) (codeOf (c .root) (c .path)) smp r b) (records-join l m)
 
@@ -218,12 +225,12 @@ advance-in r rs (false ∷ p) l = l
 head-in : {d : ℕ} {r : List ℕ} {rs : List (List ℕ)} → RootsIn d (r ∷ rs) → GoodRoot r × (length r ≡ d)
 head-in (roots-more g e l) = (g, e)
 
-pub follows-cells : {d : ℕ} (rs : List (List ℕ)) {s t : State} {cs : List Cell} → RootsIn d rs → rs ≡ s .roots → Follows s cs t → Within (greatestDepth d) cs → CellsIn d cs
+pub follows-cells : {d : ℕ} (rs : List (List ℕ)) {s t : State} {cs : List TreeCell} → RootsIn d rs → rs ≡ s .roots → Follows s cs t → NoDeeper (greatestDepth d) cs → CellsIn d cs
 follows-cells rs l q end w = cells-none
-follows-cells {d} rs l q (leaf {r = r} {rs = rs′} {p = p} n f) (within-more h w) =
+follows-cells {d} rs l q (leaf {r = r} {rs = rs′} {p = p} n f) (no-deeper-more h w) =
     let l′ : RootsIn d (r ∷ rs′) = subst (RootsIn d) q l in
     let g = head-in l′ in
-    cells-more {c = cell r (steps (zeros n p))} (record { good-root = g .0; good-path = record { steps = steps-good (zeros n p) .small; depth = rw (g .1) h } }) (g .1) (follows-cells (advance r rs′ (zeros n p) .roots) (advance-in r rs′ (zeros n p) l′) refl f w)
+    cells-more {c = treeCell r (steps (zeros n p))} (record { good-root = g .0; good-path = record { steps = steps-good (zeros n p) .small; depth = rw (g .1) h } }) (g .1) (follows-cells (advance r rs′ (zeros n p) .roots) (advance-in r rs′ (zeros n p) l′) refl f w)
 
-pub leaves-cells : (d : ℕ) → isDimension d ≡ true → {cs : List Cell} → Leaves (roots d) (greatestDepth d) cs → CellsIn d cs
+pub leaves-cells : (d : ℕ) → isDimension d ≡ true → {cs : List TreeCell} → Leaves (roots d) (greatestDepth d) cs → CellsIn d cs
 leaves-cells d e v = let f = good-follows v in follows-cells (roots d) (roots-in d e) refl (f .1) (v .within)

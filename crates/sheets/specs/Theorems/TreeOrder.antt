@@ -9,7 +9,7 @@ use native.Mathlib.Omega.{arith}
 use native.Mathlib.Decide.{decLt}
 use native.Mathlib.Nat.{lt-trans}
 use Rattle.bisection.specs.Roots.{Earlier, inside, smaller, same-step}
-use Rattle.sheets.specs.Forests.{Cell, cell, Before, by-root, by-path}
+use Rattle.sheets.specs.Forests.{TreeCell, treeCell, Before, by-root, by-path}
 
 -- dictionary order of lists
 earlier-apart : {p q : List ℕ} → Earlier p q → p ≢ q
@@ -63,17 +63,17 @@ earlier-inside [] b q = inside
 earlier-inside (a ∷ p) b q = same-step (earlier-inside p b q)
 
 -- tree order of cells, whatever their dimensions
-pub before-irreflexive : (c : Cell) → Before c c → ⊥
+pub before-irreflexive : (c : TreeCell) → Before c c → ⊥
 before-irreflexive c (by-root h) = earlier-irreflexive (c .root) h
 before-irreflexive c (by-path e h) = earlier-irreflexive (c .path) h
 
-pub before-transitive : {c d e : Cell} → Before c d → Before d e → Before c e
+pub before-transitive : {c d e : TreeCell} → Before c d → Before d e → Before c e
 before-transitive (by-root h) (by-root k) = by-root (earlier-transitive h k)
 before-transitive (by-root h) (by-path f k) = by-root (rw f at h)
 before-transitive (by-path e h) (by-root k) = by-root (rw e k)
 before-transitive (by-path e h) (by-path f k) = by-path (e ∙ f) (earlier-transitive h k)
 
-pub before-total : (c d : Cell) → c ≢ d → Before c d ⊎ Before d c
+pub before-total : (c d : TreeCell) → c ≢ d → Before c d ⊎ Before d c
 before-total c d n = go (compare (c .root) (d .root)) (compare (c .path) (d .path))
   where
     go : Compared (c .root) (d .root) → Compared (c .path) (d .path) → Before c d ⊎ Before d c
@@ -81,7 +81,7 @@ before-total c d n = go (compare (c .root) (d .root)) (compare (c .path) (d .pat
     go (later h) p = inr (by-root h)
     go (same e) (earlier h) = inl (by-path e h)
     go (same e) (later h) = inr (by-path (sym e) h)
-    go (same e) (same f) = absurd (n (ap (λ (r : List ℕ). cell r (c .path)) e ∙ ap (cell (d .root)) f))
+    go (same e) (same f) = absurd (n (ap (λ (r : List ℕ). treeCell r (c .path)) e ∙ ap (treeCell (d .root)) f))
 
-pub before-inside : (c : Cell) (b : ℕ) (steps : List ℕ) → Before c (cell (c .root) (c .path ++ b ∷ steps))
+pub before-inside : (c : TreeCell) (b : ℕ) (steps : List ℕ) → Before c (treeCell (c .root) (c .path ++ b ∷ steps))
 before-inside c b steps = by-path refl (earlier-inside (c .path) b steps)

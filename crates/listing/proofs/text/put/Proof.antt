@@ -18,7 +18,10 @@ same-length : tie.Need-same-length
 same-length c = search needs
 
 returns : tie.Need-returns
-returns c = record { next = refl; is = c .before .before .copy .ensures ∙ put-copy (c .before .before .before .before .before .before .args .at) _ (c .before .before .before .before .before .before .args .bytes .now) (c .before .before .before .before .before .before .args .out .now) refl }
+returns c =
+    let copy = c .before .before .copy in
+    let args = c .before .before .before .before .before .before .args in
+    record { next = refl; is = copy .ensures ∙ put-copy (args .at) _ (args .bytes .now) (args .out .now) refl }
 
 pub put-spec : {M : Type 1} → statement M
 put-spec = tie.close (tie.spec copy-requires add-result same-length returns)

@@ -20,13 +20,21 @@ slice-aggregate-put : tie.Need-slice-aggregate-put
 slice-aggregate-put c = search needs
 
 put-requires : tie.Need-put-requires
-put-requires c κs = rw (c .before .before .decimal .ensures .1 .1 ∙ decimal-is (c .before .before .before .before .before .args .n) (c .before .before .decimal .result) (c .before .before .decimal .ensures .1 .0)) (c .before .before .before .before .before .pre)
+put-requires c κs =
+    let decimal = c .before .before .decimal in
+    let args = c .before .before .before .before .before .args in
+    let pre = c .before .before .before .before .before .pre in
+    rw (decimal .ensures .1 .1 ∙ decimal-is (args .n) (decimal .result) (decimal .ensures .1 .0)) (pre)
 
 same-length : tie.Need-same-length
 same-length c = search needs
 
 returns : tie.Need-returns
-returns c = subst (λ (t : List ℕ). Puts (c .before .before .before .before .before .before .before .before .args .at) t (c .before .before .before .before .before .before .before .before .args .out .now) (c .before .before .put .result) (c .before .before .put .last .0)) (c .before .before .before .before .before .decimal .ensures .1 .1 ∙ decimal-is (c .before .before .before .before .before .before .before .before .args .n) (c .before .before .before .before .before .decimal .result) (c .before .before .before .before .before .decimal .ensures .1 .0)) (c .before .before .put .ensures)
+returns c =
+    let args = c .before .before .before .before .before .before .before .before .args in
+    let put = c .before .before .put in
+    let decimal = c .before .before .before .before .before .decimal in
+    subst (λ (t : List ℕ). Puts (args .at) t (args .out .now) (put .result) (put .last .0)) (decimal .ensures .1 .1 ∙ decimal-is (args .n) (decimal .result) (decimal .ensures .1 .0)) (put .ensures)
 
 pub put-decimal-spec : {M : Type 1} → statement M
 put-decimal-spec =

@@ -5,28 +5,53 @@ use Rattle.listing.proofs.text.put_leaf.Statement.{statement}
 use Rattle.listing.proofs.text.put_leaf.Tie as tie
 
 put-decimal-requires : tie.Need-put-decimal-requires
-put-decimal-requires c κs = leaf-fits (c .before .before .before .args .at) (c .before .before .before .args .number) (c .before .before .before .args .code .now) (c .before .before .before .args .out .now) (c .before .before .before .pre) .first
+put-decimal-requires c κs =
+    let args = c .before .before .before .args in
+    let pre = c .before .before .before .pre in
+    leaf-fits (args .at) (args .number) (args .code .now) (args .out .now) (pre) .first
 
 slice-aggregate-put : tie.Need-slice-aggregate-put
 slice-aggregate-put c = search needs
 
 put-requires : tie.Need-put-requires
-put-requires c κs = leaf-fits (c .before .before .before .before .before .before .before .before .args .at) (c .before .before .before .before .before .before .before .before .args .number) (c .before .before .before .before .before .before .before .before .args .code .now) (c .before .before .before .before .before .before .before .before .args .out .now) (c .before .before .before .before .before .before .before .before .pre) .second (c .before .before .before .before .put-decimal .ensures)
+put-requires c κs =
+    let args = c .before .before .before .before .before .before .before .before .args in
+    let pre = c .before .before .before .before .before .before .before .before .pre in
+    let put-decimal = c .before .before .before .before .put-decimal in
+    leaf-fits (args .at) (args .number) (args .code .now) (args .out .now) (pre) .second (put-decimal .ensures)
 
 put-hex-requires : tie.Need-put-hex-requires
-put-hex-requires c κs = leaf-fits (c .before .before .before .before .before .before .before .before .before .before .before .before .args .at) (c .before .before .before .before .before .before .before .before .before .before .before .before .args .number) (c .before .before .before .before .before .before .before .before .before .before .before .before .args .code .now) (c .before .before .before .before .before .before .before .before .before .before .before .before .args .out .now) (c .before .before .before .before .before .before .before .before .before .before .before .before .pre) .third (c .before .before .before .before .before .before .before .before .put-decimal .ensures) (c .before .before .before .put .ensures)
+put-hex-requires c κs =
+    let args = c .before .before .before .before .before .before .before .before .before .before .before .before .args in
+    let pre = c .before .before .before .before .before .before .before .before .before .before .before .before .pre in
+    let put-decimal = c .before .before .before .before .before .before .before .before .put-decimal in
+    let put = c .before .before .before .put in
+    leaf-fits (args .at) (args .number) (args .code .now) (args .out .now) (pre) .third (put-decimal .ensures) (put .ensures)
 
 slice-aggregate-put-2 : tie.Need-slice-aggregate-put-2
 slice-aggregate-put-2 c = search needs
 
 put-requires-2 : tie.Need-put-requires-2
-put-requires-2 c κs = leaf-fits (c .before .before .before .before .before .before .before .before .before .before .before .before .before .before .before .before .before .args .at) (c .before .before .before .before .before .before .before .before .before .before .before .before .before .before .before .before .before .args .number) (c .before .before .before .before .before .before .before .before .before .before .before .before .before .before .before .before .before .args .code .now) (c .before .before .before .before .before .before .before .before .before .before .before .before .before .before .before .before .before .args .out .now) (c .before .before .before .before .before .before .before .before .before .before .before .before .before .before .before .before .before .pre) .fourth (c .before .before .before .before .before .before .before .before .before .before .before .before .before .put-decimal .ensures) (c .before .before .before .before .before .before .before .before .put .ensures) (c .before .before .before .before .put-hex .ensures)
+put-requires-2 c κs =
+    let args = c .before .before .before .before .before .before .before .before .before .before .before .before .before .before .before .before .before .args in
+    let pre = c .before .before .before .before .before .before .before .before .before .before .before .before .before .before .before .before .before .pre in
+    let put-decimal = c .before .before .before .before .before .before .before .before .before .before .before .before .before .put-decimal in
+    let put = c .before .before .before .before .before .before .before .before .put in
+    let put-hex = c .before .before .before .before .put-hex in
+    leaf-fits (args .at) (args .number) (args .code .now) (args .out .now) (pre) .fourth (put-decimal .ensures) (put .ensures) (put-hex .ensures)
 
 same-length : tie.Need-same-length
 same-length c = search needs
 
 returns : tie.Need-returns
-returns c = leaf-fits (c .before .before .before .before .before .before .before .before .before .before .before .before .before .before .before .before .before .before .before .before .args .at) (c .before .before .before .before .before .before .before .before .before .before .before .before .before .before .before .before .before .before .before .before .args .number) (c .before .before .before .before .before .before .before .before .before .before .before .before .before .before .before .before .before .before .before .before .args .code .now) (c .before .before .before .before .before .before .before .before .before .before .before .before .before .before .before .before .before .before .before .before .args .out .now) (c .before .before .before .before .before .before .before .before .before .before .before .before .before .before .before .before .before .before .before .before .pre) .whole (c .before .before .before .before .before .before .before .before .before .before .before .before .before .before .before .before .put-decimal .ensures) (c .before .before .before .before .before .before .before .before .before .before .before .put .ensures) (c .before .before .before .before .before .before .before .put-hex .ensures) (c .before .before .put2 .ensures)
+returns c =
+    let args = c .before .before .before .before .before .before .before .before .before .before .before .before .before .before .before .before .before .before .before .before .args in
+    let pre = c .before .before .before .before .before .before .before .before .before .before .before .before .before .before .before .before .before .before .before .before .pre in
+    let put-decimal = c .before .before .before .before .before .before .before .before .before .before .before .before .before .before .before .before .put-decimal in
+    let put = c .before .before .before .before .before .before .before .before .before .before .before .put in
+    let put-hex = c .before .before .before .before .before .before .before .put-hex in
+    let put2 = c .before .before .put2 in
+    leaf-fits (args .at) (args .number) (args .code .now) (args .out .now) (pre) .whole (put-decimal .ensures) (put .ensures) (put-hex .ensures) (put2 .ensures)
 
 pub put-leaf-spec : {M : Type 1} → statement M
 put-leaf-spec =

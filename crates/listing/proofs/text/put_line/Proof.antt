@@ -10,22 +10,40 @@ use Rattle.listing.proofs.text.put_line.Statement.{statement}
 use Rattle.listing.proofs.text.put_line.Tie as tie
 
 put-requires : tie.Need-put-requires
-put-requires c κs = number-fits (c .before .before .before .args .at) (c .before .before .before .args .word .now) (c .before .before .before .args .n) (c .before .before .before .args .out .now) (c .before .before .before .pre) .first
+put-requires c κs =
+    let args = c .before .before .before .args in
+    let pre = c .before .before .before .pre in
+    number-fits (args .at) (args .word .now) (args .n) (args .out .now) (pre) .first
 
 put-decimal-requires : tie.Need-put-decimal-requires
-put-decimal-requires c κs = number-fits (c .before .before .before .before .before .before .before .args .at) (c .before .before .before .before .before .before .before .args .word .now) (c .before .before .before .before .before .before .before .args .n) (c .before .before .before .before .before .before .before .args .out .now) (c .before .before .before .before .before .before .before .pre) .second (c .before .before .before .put .ensures)
+put-decimal-requires c κs =
+    let args = c .before .before .before .before .before .before .before .args in
+    let pre = c .before .before .before .before .before .before .before .pre in
+    let put = c .before .before .before .put in
+    number-fits (args .at) (args .word .now) (args .n) (args .out .now) (pre) .second (put .ensures)
 
 slice-aggregate-put : tie.Need-slice-aggregate-put
 slice-aggregate-put c = search needs
 
 put-requires-2 : tie.Need-put-requires-2
-put-requires-2 c κs = number-fits (c .before .before .before .before .before .before .before .before .before .before .before .before .args .at) (c .before .before .before .before .before .before .before .before .before .before .before .before .args .word .now) (c .before .before .before .before .before .before .before .before .before .before .before .before .args .n) (c .before .before .before .before .before .before .before .before .before .before .before .before .args .out .now) (c .before .before .before .before .before .before .before .before .before .before .before .before .pre) .third (c .before .before .before .before .before .before .before .before .put .ensures) (c .before .before .before .before .put-decimal .ensures)
+put-requires-2 c κs =
+    let args = c .before .before .before .before .before .before .before .before .before .before .before .before .args in
+    let pre = c .before .before .before .before .before .before .before .before .before .before .before .before .pre in
+    let put = c .before .before .before .before .before .before .before .before .put in
+    let put-decimal = c .before .before .before .before .put-decimal in
+    number-fits (args .at) (args .word .now) (args .n) (args .out .now) (pre) .third (put .ensures) (put-decimal .ensures)
 
 same-length : tie.Need-same-length
 same-length c = search needs
 
 returns : tie.Need-returns
-returns c = number-fits (c .before .before .before .before .before .before .before .before .before .before .before .before .before .before .before .args .at) (c .before .before .before .before .before .before .before .before .before .before .before .before .before .before .before .args .word .now) (c .before .before .before .before .before .before .before .before .before .before .before .before .before .before .before .args .n) (c .before .before .before .before .before .before .before .before .before .before .before .before .before .before .before .args .out .now) (c .before .before .before .before .before .before .before .before .before .before .before .before .before .before .before .pre) .whole (c .before .before .before .before .before .before .before .before .before .before .before .put .ensures) (c .before .before .before .before .before .before .before .put-decimal .ensures) (c .before .before .put2 .ensures)
+returns c =
+    let args = c .before .before .before .before .before .before .before .before .before .before .before .before .before .before .before .args in
+    let pre = c .before .before .before .before .before .before .before .before .before .before .before .before .before .before .before .pre in
+    let put = c .before .before .before .before .before .before .before .before .before .before .before .put in
+    let put-decimal = c .before .before .before .before .before .before .before .put-decimal in
+    let put2 = c .before .before .put2 in
+    number-fits (args .at) (args .word .now) (args .n) (args .out .now) (pre) .whole (put .ensures) (put-decimal .ensures) (put2 .ensures)
 
 pub put-line-spec : {M : Type 1} → statement M
 put-line-spec =
