@@ -1,7 +1,7 @@
 -- Document 01, "The cube and the bisection": points, cells, the two children, the cell of a root and a path.
 -- d is the dimension and D a depth; a path is its bytes, 0 for child 0 and 1 for child 1.
 use mathlib.Core.List.{List, [], _∷_, _++_}
-use Prim.Native.Nat.{ℕ, zero, suc, _+_, _-_, _*_, _/_, _%_}
+use Prim.Native.Nat.{ℕ, zero, suc, _+_, _-_, _/_, _%_}
 use lib.ListN.{length, getD, take, drop, set, replicate}
 use Rattle.dimension.specs.Sizes.{cubeSide, splitPlace}
 
@@ -61,7 +61,3 @@ pointBytes (x ∷ v) = x % 256 ∷ x / 256 ∷ pointBytes v
 unfoldable pub cellBytes : Cell → List ℕ
 cellBytes [] = []
 cellBytes (v ∷ vs) = pointBytes v ++ cellBytes vs
-
--- d + 1 points of d coordinates of two bytes
-unfoldable pub cellLength : ℕ → ℕ
-cellLength d = suc d * (2 * d)

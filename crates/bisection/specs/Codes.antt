@@ -98,7 +98,3 @@ orthantsOf code = drop (2 + dimensionOf code) code
 
 unfoldable pub partsOf : List ℕ → Name
 partsOf code = record { entries = entriesOf code; orthants = orthantsOf code }
-
--- the step rule on a code's bytes
-unfoldable pub childCode : ℕ → List ℕ → List ℕ
-childCode b code = bytes (dimensionOf code) (suc (depthOf code)) (step (dimensionOf code) (depthOf code) b (partsOf code))

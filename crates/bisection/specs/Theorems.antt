@@ -27,6 +27,8 @@ pub mod Geometry
 pub mod OneCode
 -- A code that passes has one cell, and a cell has one code.
 pub mod CodeCells
+-- The cell of a path with one step more is that child of the path's cell.
+pub mod CellChildren
 -- The rule table of a crossing, on names.
 pub mod Table
 -- The cell across a facet: one axis at a time, in units of half a side.

@@ -1,71 +1,48 @@
 -- The outcomes of writing a cell's vertices: one law for each way out of the code.
 use mathlib.Core.Path.{_≡_, refl, sym, ap, _∙_}
-use mathlib.Core.List.{List, []}
+use mathlib.Core.List.{List, _++_}
 use mathlib.Core.Logic.{_≢_}
-use Prim.Native.Nat.{ℕ, _+_, _*_, _≤_, _<_}
+use Prim.Native.Nat.{ℕ, _≤_, _<_}
 use native.Mathlib.Omega.{arith}
-use native.Mathlib.Nat.{mul-comm, mul-le-mul}
-use native.Mathlib.Numerals.{add-one}
-use lib.Dec.{leb}
-use lib.ListN.{length, take}
+use lib.ListN.{length, drop}
 use borrow.Author.Tests.{le-leb, lt-leb}
-use Rattle.bisection.specs.Cells.{cellOf, cellBytes, cellLength}
+use Rattle.dimension.specs.Sizes.{pointsLength}
+use Rattle.bisection.specs.Cells.{cellOf, cellBytes}
 use Rattle.bisection.specs.Codes.{dimensionOf}
-use Rattle.bisection.specs.Refusals.{done, refusedShort, need, codeRefusal}
+use Rattle.bisection.specs.Refusals.{done, refusedShort, codeRefusal}
+use Rattle.bisection.specs.Theorems.Ladders.{first-is, all-hold, holds, fails, past, stops}
 use Rattle.bisection.specs.Theorems.CodePaths.{rootOf, pathOf, code-path}
+use Rattle.codes.specs.declared.Written.{Written}
 use Rattle.codes.specs.Outcomes.{Vertices, verticesRefusal}
-use Rattle.codes.specs.Heads.{first-stands, first-done, last-fails, last-holds}
+use Rattle.codes.specs.Writing.{refused-gives, done-gives}
 use Rattle.corners.specs.Points.{cell-length}
 use Rattle.corners.specs.Drawing.{CellReady, CellWritten, drawn-code}
 
--- the bytes that d + 1 points take, as the code computes it
-pub points-size : (n : ℕ) → 2 * n * (n + 1) ≡ cellLength n
-unfolding cellLength
-points-size n = mul-comm (2 * n) (n + 1) ∙ ap (λ (m : ℕ). m * (2 * n)) (add-one n)
-
-pub points-few : (n : ℕ) → n ≤ 4 → 2 * n * (n + 1) ≤ 40
-points-few n h = mul-le-mul {n₁ = 2 * n} {m₁ = n + 1} {n₂ = 8} {m₂ = 5} (omega arith) (omega arith)
-
--- the entry's outcomes
-refused : (code before : List ℕ) (number : ℕ) → number ≢ 0 → number ≡ verticesRefusal code (length before) → Vertices code before (record { refusal = number; length = 0 }) before
-refused code before number h q = record {
-  answer = [];
-  writes = record { number = q; refused = λ n. (refl, refl); written = λ n. absurd (h (q ∙ n)) };
-  vertices = λ n. absurd (h (q ∙ n));
-}
-
+-- the ways out, in document 01's order
 module _ (code before : List ℕ) where
-  pub vertices-code : (number : ℕ) → number ≡ codeRefusal code → number ≢ 0 → Vertices code before (record { refusal = number; length = 0 }) before
+  pub vertices-own : {x : ℕ} {r : Written} → x ≡ codeRefusal code → x ≢ done → (r .refusal ≡ x) × (r .length ≡ 0) → Vertices code before r before
   unfolding verticesRefusal
-  vertices-code number q h = refused code before number h (q ∙ sym (first-stands (codeRefusal code) (need (leb (cellLength (dimensionOf code)) (length before)) refusedShort) (λ z. h (q ∙ z))))
+  vertices-own e n f = refused-gives (first-is (stops (sym e) n)) n f
 
-  module _ (e : codeRefusal code ≡ done) (n : ℕ) (q : n ≡ dimensionOf code) where
-    size : 2 * n * (n + 1) ≡ cellLength (dimensionOf code)
-    size = points-size n ∙ ap cellLength q
+  -- as the code has the code's refusal, its dimension and the points' length
+  module _ {x d n : ℕ} (e : x ≡ codeRefusal code) (z : x ≡ done) (axes : d ≡ dimensionOf code) (long : n ≡ pointsLength d) where
+    p : codeRefusal code ≡ done
+    p = sym e ∙ z
 
-    past : verticesRefusal code (length before) ≡ need (leb (cellLength (dimensionOf code)) (length before)) refusedShort
+    size : pointsLength (dimensionOf code) ≡ n
+    size = rw (← axes, long) refl
+
+    pub vertices-short : {r : Written} → length before < n → (r .refusal ≡ refusedShort) × (r .length ≡ 0) → Vertices code before r before
     unfolding verticesRefusal
-    past = first-done (codeRefusal code) (need (leb (cellLength (dimensionOf code)) (length before)) refusedShort) e
+    vertices-short h f = refused-gives (first-is (past p (fails (lt-leb (pointsLength (dimensionOf code)) (length before) (omega (arith, size)))))) (omega arith) f
 
-    pub vertices-short : length before < 2 * n * (n + 1) → Vertices code before (record { refusal = 11; length = 0 }) before
-    vertices-short h = refused code before 11 (omega arith) (sym (past ∙ last-fails (leb (cellLength (dimensionOf code)) (length before)) refusedShort (lt-leb (cellLength (dimensionOf code)) (length before) (omega (arith, size)))))
+    pub vertices-ready : n ≤ length before → CellReady code (length before)
+    vertices-ready h = record { passing = p; space = omega (arith, size) }
 
-    pub vertices-ready : 2 * n * (n + 1) ≤ length before → CellReady code (length before)
-    vertices-ready h = record { passing = e; space = omega (arith, size) }
-
-    pub vertices-done : 2 * n * (n + 1) ≤ length before → {after : List ℕ} → CellWritten code before after → Vertices code before (record { refusal = 0; length = 2 * n * (n + 1) }) after
-    vertices-done h w = record {
-      answer = answer;
-      writes = record {
-        number = sym (past ∙ last-holds (leb (cellLength (dimensionOf code)) (length before)) refusedShort (le-leb (cellLength (dimensionOf code)) (length before) (omega (arith, size))));
-        refused = λ z. absurd (z (past ∙ last-holds (leb (cellLength (dimensionOf code)) (length before)) refusedShort (le-leb (cellLength (dimensionOf code)) (length before) (omega (arith, size)))));
-        written = λ z. (size ∙ sym long, rw long (w .is));
-      };
-      vertices = λ z. record { root = rootOf code; path = pathOf code; code-of = code-path code e; is = refl };
-    }
-      where
-        answer : List ℕ
-        answer = cellBytes (cellOf (rootOf code) (pathOf code))
-
-        long : length (cellBytes (cellOf (rootOf code) (pathOf code))) ≡ cellLength (dimensionOf code)
-        long = cell-length (drawn-code code e .sized)
+    pub vertices-done : {after : List ℕ} → n ≤ length before → CellWritten code before after → Vertices code before (record { refusal = done; length = n }) after
+    unfolding verticesRefusal
+    vertices-done h w = done-gives (cellBytes (cellOf (rootOf code) (pathOf code)))
+        (first-is (past p (holds (le-leb (pointsLength (dimensionOf code)) (length before) (omega (arith, size))) all-hold)))
+        (sym size ∙ sym (cell-length (drawn-code code p .sized)))
+        (w .is ∙ ap (λ (m : ℕ). cellBytes (cellOf (rootOf code) (pathOf code)) ++ drop m before) size)
+        (record { root = rootOf code; path = pathOf code; code-of = code-path code p; is = refl })

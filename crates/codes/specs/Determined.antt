@@ -14,7 +14,7 @@ use Rattle.bisection.specs.Refusals.{codeRefusal}
 use Rattle.bisection.specs.Theorems.CodePaths.{one-path}
 use Rattle.codes.specs.declared.Written.{Written}
 use Rattle.codes.specs.declared.PathWritten.{PathWritten}
-use Rattle.codes.specs.Outcomes.{Writes, PathToCode, toPathRefusal, PathOf, CodeToPath, VerticesOf, Vertices, verticesRefusal, Child, ParentOf, Parent, parentRefusal}
+use Rattle.codes.specs.Outcomes.{Writes, Gives, PathToCode, toPathRefusal, PathOf, CodeToPath, VerticesOf, Vertices, ChildOf, Child, ParentOf, Parent}
 
 -- an outcome: the answer and the buffer at exit
 same-written : {r r' : Written} → r .refusal ≡ r' .refusal → r .length ≡ r' .length → r ≡ r'
@@ -26,8 +26,15 @@ writes-determined : {refusal : ℕ} {answer answer' before after after' : List �
 writes-determined {refusal} {answer} {answer'} {before} {after} {after'} {r} {r'} same w w' = go (ℕ-discrete refusal 0)
   where
     go : Dec (refusal ≡ 0) → (r ≡ r') × (after ≡ after')
-    go (yes e) = (same-written (w .number ∙ sym (w' .number)) (w .written e .0 ∙ ap length (same e) ∙ sym (w' .written e .0)), w .written e .1 ∙ ap (λ (a : List ℕ). a ++ drop (length a) before) (same e) ∙ sym (w' .written e .1))
+    go (yes e) = (
+      same-written (w .number ∙ sym (w' .number)) (w .written e .0 ∙ ap length (same e) ∙ sym (w' .written e .0)),
+      w .written e .1 ∙ ap (λ (a : List ℕ). a ++ drop (length a) before) (same e) ∙ sym (w' .written e .1),
+    )
     go (no e) = (same-written (w .number ∙ sym (w' .number)) (w .refused e .0 ∙ sym (w' .refused e .0)), w .refused e .1 ∙ sym (w' .refused e .1))
+
+gives-determined : {refusal : ℕ} {Is : List ℕ → Type 0} → ((a a' : List ℕ) → Is a → Is a' → a ≡ a') → {before after after' : List ℕ} {r r' : Written}
+    → Gives refusal Is before r after → Gives refusal Is before r' after' → (r ≡ r') × (after ≡ after')
+gives-determined one g g' = writes-determined (λ e. one (g .answer) (g' .answer) (g .is e) (g' .is e)) (g .writes) (g' .writes)
 
 pub code-check-determined : (code : List ℕ) {r r' : ℕ} → r ≡ codeRefusal code → r' ≡ codeRefusal code → r ≡ r'
 code-check-determined code e f = e ∙ sym f
@@ -35,17 +42,23 @@ code-check-determined code e f = e ∙ sym f
 pub path-to-code-determined : (root path : List ℕ) {before after after' : List ℕ} {r r' : Written} → PathToCode root path before r after → PathToCode root path before r' after' → (r ≡ r') × (after ≡ after')
 path-to-code-determined root path = writes-determined (λ e. refl)
 
-pub child-determined : (code : List ℕ) (which : ℕ) {before after after' : List ℕ} {r r' : Written} → Child code which before r after → Child code which before r' after' → (r ≡ r') × (after ≡ after')
-child-determined code which = writes-determined (λ e. refl)
-
-vertices-one : {code a a' : List ℕ} → VerticesOf code a → VerticesOf code a' → a ≡ a'
-vertices-one v v' = v .is ∙ ap cellBytes (rw (p .0, p .1) refl) ∙ sym (v' .is)
+vertices-one : (code a a' : List ℕ) → VerticesOf code a → VerticesOf code a' → a ≡ a'
+vertices-one code a a' v v' = v .is ∙ rw (p .0, p .1) refl ∙ sym (v' .is)
   where
     p : (v .root ≡ v' .root) × (v .path ≡ v' .path)
     p = one-path (v .code-of) (v' .code-of)
 
-pub vertices-determined : {code before after after' : List ℕ} {r r' : Written} → Vertices code before r after → Vertices code before r' after' → (r ≡ r') × (after ≡ after')
-vertices-determined v v' = writes-determined (λ e. vertices-one (v .vertices e) (v' .vertices e)) (v .writes) (v' .writes)
+pub vertices-determined : (code : List ℕ) {before after after' : List ℕ} {r r' : Written} → Vertices code before r after → Vertices code before r' after' → (r ≡ r') × (after ≡ after')
+vertices-determined code = gives-determined (vertices-one code)
+
+child-one : (which : ℕ) (code a a' : List ℕ) → ChildOf which code a → ChildOf which code a' → a ≡ a'
+child-one which code a a' v v' = v .is ∙ rw (p .0, p .1) refl ∙ sym (v' .is)
+  where
+    p : (v .root ≡ v' .root) × (v .path ≡ v' .path)
+    p = one-path (v .code-of) (v' .code-of)
+
+pub child-determined : (code : List ℕ) (which : ℕ) {before after after' : List ℕ} {r r' : Written} → Child code which before r after → Child code which before r' after' → (r ≡ r') × (after ≡ after')
+child-determined code which = gives-determined (child-one which code)
 
 -- a path is known by the path with one step more
 shorter : (p q : List ℕ) (x y : ℕ) → p ++ x ∷ [] ≡ q ++ y ∷ [] → p ≡ q
@@ -54,14 +67,14 @@ shorter p q x y e = sym (take-at p (x ∷ []) (length p) refl) ∙ ap (lib.ListN
     size : length p ≡ length q
     size = omega (arith, simp length-append at (ap length e))
 
-parent-one : {code a a' : List ℕ} → ParentOf code a → ParentOf code a' → a ≡ a'
-parent-one v v' = v .is ∙ rw (p .0, shorter (v .path) (v' .path) (v .last) (v' .last) (p .1)) refl ∙ sym (v' .is)
+parent-one : (code a a' : List ℕ) → ParentOf code a → ParentOf code a' → a ≡ a'
+parent-one code a a' v v' = v .is ∙ rw (p .0, shorter (v .path) (v' .path) (v .last) (v' .last) (p .1)) refl ∙ sym (v' .is)
   where
     p : (v .root ≡ v' .root) × (v .path ++ v .last ∷ [] ≡ v' .path ++ v' .last ∷ [])
     p = one-path (v .code-of) (v' .code-of)
 
-pub parent-determined : {code before after after' : List ℕ} {r r' : Written} → Parent code before r after → Parent code before r' after' → (r ≡ r') × (after ≡ after')
-parent-determined v v' = writes-determined (λ e. parent-one (v .parent e) (v' .parent e)) (v .writes) (v' .writes)
+pub parent-determined : (code : List ℕ) {before after after' : List ℕ} {r r' : Written} → Parent code before r after → Parent code before r' after' → (r ≡ r') × (after ≡ after')
+parent-determined code = gives-determined (parent-one code)
 
 pub code-to-path-determined : {code roots paths root path root' path' : List ℕ} {r r' : PathWritten} → CodeToPath code roots paths r root path → CodeToPath code roots paths r' root' path'
     → (r ≡ r') × (root ≡ root') × (path ≡ path')
@@ -85,4 +98,4 @@ code-to-path-determined {code} {roots} {paths} {root} {path} {root'} {path'} {r}
 
         p : (w .root ≡ w' .root) × (w .path ≡ w' .path)
         p = one-path (w .code-of) (w' .code-of)
-    go (no e) = (same (c .refused e .0 ∙ sym (c' .refused e .0)) (c .refused e .1 ∙ sym (c' .refused e .1)), c .refused e .2 ∙ sym (c' .refused e .2), c .refused e .3 ∙ sym (c' .refused e .3))
+    go (no e) = let n = c .refused e in let n' = c' .refused e in (same (n .0 ∙ sym (n' .0)) (n .1 ∙ sym (n' .1)), n .2 ∙ sym (n' .2), n .3 ∙ sym (n' .3))

@@ -5,8 +5,11 @@ pub mod Outcomes
 pub mod Fronts
 -- Two outcomes that a contract allows are equal.
 pub mod Determined
+-- Children and parents agree with the bisection.
+pub mod Bisects
 -- What the proofs of the entries use: the order of refusals, and one law for each way out of an entry.
 pub mod Heads
+pub mod Writing
 pub mod ChildAnswers
 pub mod ParentAnswers
 pub mod PathAnswers

@@ -7,10 +7,10 @@ use mathlib.Core.Logic.{_≢_}
 use Prim.Native.Nat.{ℕ, suc, _+_, _-_}
 use lib.Dec.{leb, ltb}
 use lib.ListN.{length, drop}
-use Rattle.dimension.specs.Sizes.{isDimension, greatestDepth, codeLength}
-use Rattle.bisection.specs.Cells.{cellOf, cellBytes, cellLength}
-use Rattle.bisection.specs.Codes.{codeOf, IsCodeOf, dimensionOf, depthOf, childCode}
-use Rattle.bisection.specs.Refusals.{done, refusedDimension, refusedDepth, refusedPermutation, refusedStep, refusedRoot, refusedDeepest, refusedShort, need, _then_, codeRefusal, isRoot, isPath}
+use Rattle.dimension.specs.Sizes.{isDimension, greatestDepth, codeLength, pointsLength}
+use Rattle.bisection.specs.Cells.{cellOf, cellBytes}
+use Rattle.bisection.specs.Codes.{codeOf, IsCodeOf, dimensionOf, depthOf}
+use Rattle.bisection.specs.Refusals.{done, refusedDimension, refusedDepth, refusedPermutation, refusedStep, refusedRoot, refusedDeepest, refusedShort, need, own, firstRefusal, codeRefusal, isRoot, isPath}
 use Rattle.codes.specs.declared.Written.{Written}
 use Rattle.codes.specs.declared.PathWritten.{PathWritten}
 
@@ -21,23 +21,31 @@ pub record Writes (refusal : ℕ) (answer before : List ℕ) (r : Written) (afte
   pub refused : refusal ≢ done → (r .length ≡ 0) × (after ≡ before)
   pub written : refusal ≡ done → (r .length ≡ length answer) × (after ≡ answer ++ drop (length answer) before)
 
+-- an entry whose answer is the one of a relation
+pub record Gives (refusal : ℕ) (Is : List ℕ → Type 0) (before : List ℕ) (r : Written) (after : List ℕ) : Type 0 where
+  pub answer : List ℕ
+  pub writes : Writes refusal answer before r after
+  pub is : refusal ≡ done → Is answer
+
 -- path to code: 1 (root length), 2 (path length), 4, 7, 11
 unfoldable pub pathRefusal : List ℕ → List ℕ → ℕ → ℕ
-pathRefusal root path room =
+pathRefusal root path room = firstRefusal (
     need (isDimension (length root)) refusedDimension
-    then need (leb (length path) (greatestDepth (length root))) refusedDepth
-    then need (isRoot root) refusedPermutation
-    then need (isPath path) refusedStep
-    then need (leb (codeLength (length root) (length path)) room) refusedShort
+    ∷ need (leb (length path) (greatestDepth (length root))) refusedDepth
+    ∷ need (isRoot root) refusedPermutation
+    ∷ need (isPath path) refusedStep
+    ∷ need (leb (codeLength (length root) (length path)) room) refusedShort
+    ∷ [])
 
 abbrev pub PathToCode : List ℕ → List ℕ → List ℕ → Written → List ℕ → Type 0
 PathToCode root path before r after = Writes (pathRefusal root path (length before)) (codeOf root path) before r after
 
 -- code to path fills two buffers or neither
 unfoldable pub toPathRefusal : List ℕ → ℕ → ℕ → ℕ
-toPathRefusal code rootRoom pathRoom =
-    codeRefusal code
-    then need (leb (dimensionOf code) rootRoom && leb (depthOf code) pathRoom) refusedShort
+toPathRefusal code rootRoom pathRoom = firstRefusal (
+    own (codeRefusal code)
+    ∷ need (leb (dimensionOf code) rootRoom && leb (depthOf code) pathRoom) refusedShort
+    ∷ [])
 
 -- the root and the path whose code it is stand at the buffers' fronts
 pub record PathOf (code roots paths : List ℕ) (r : PathWritten) (roots' paths' : List ℕ) : Type 0 where
@@ -54,10 +62,12 @@ pub record CodeToPath (code roots paths : List ℕ) (r : PathWritten) (roots' pa
   pub refused : toPathRefusal code (length roots) (length paths) ≢ done → (r .axes ≡ 0) × (r .depth ≡ 0) × (roots' ≡ roots) × (paths' ≡ paths)
   pub written : toPathRefusal code (length roots) (length paths) ≡ done → PathOf code roots paths r roots' paths'
 
+-- vertices: the code's own; 11
 unfoldable pub verticesRefusal : List ℕ → ℕ → ℕ
-verticesRefusal code room =
-    codeRefusal code
-    then need (leb (cellLength (dimensionOf code)) room) refusedShort
+verticesRefusal code room = firstRefusal (
+    own (codeRefusal code)
+    ∷ need (leb (pointsLength (dimensionOf code)) room) refusedShort
+    ∷ [])
 
 -- the bytes of the bisection's cell of that code
 pub record VerticesOf (code answer : List ℕ) : Type 0 where
@@ -66,28 +76,35 @@ pub record VerticesOf (code answer : List ℕ) : Type 0 where
   pub code-of : IsCodeOf code root path
   pub is : answer ≡ cellBytes (cellOf root path)
 
-pub record Vertices (code before : List ℕ) (r : Written) (after : List ℕ) : Type 0 where
-  pub answer : List ℕ
-  pub writes : Writes (verticesRefusal code (length before)) answer before r after
-  pub vertices : verticesRefusal code (length before) ≡ done → VerticesOf code answer
+abbrev pub Vertices : List ℕ → List ℕ → Written → List ℕ → Type 0
+Vertices code before r after = Gives (verticesRefusal code (length before)) (VerticesOf code) before r after
 
 -- child: the code's own; 7; 10; 11
 unfoldable pub childRefusal : List ℕ → ℕ → ℕ → ℕ
-childRefusal code which room =
-    codeRefusal code
-    then need (leb which 1) refusedStep
-    then need (ltb (depthOf code) (greatestDepth (dimensionOf code))) refusedDeepest
-    then need (leb (codeLength (dimensionOf code) (suc (depthOf code))) room) refusedShort
+childRefusal code which room = firstRefusal (
+    own (codeRefusal code)
+    ∷ need (leb which 1) refusedStep
+    ∷ need (ltb (depthOf code) (greatestDepth (dimensionOf code))) refusedDeepest
+    ∷ need (leb (codeLength (dimensionOf code) (suc (depthOf code))) room) refusedShort
+    ∷ [])
+
+-- the code of the path with one step more
+pub record ChildOf (which : ℕ) (code answer : List ℕ) : Type 0 where
+  pub root : List ℕ
+  pub path : List ℕ
+  pub code-of : IsCodeOf code root path
+  pub is : answer ≡ codeOf root (path ++ which ∷ [])
 
 abbrev pub Child : List ℕ → ℕ → List ℕ → Written → List ℕ → Type 0
-Child code which before r after = Writes (childRefusal code which (length before)) (childCode which code) before r after
+Child code which before r after = Gives (childRefusal code which (length before)) (ChildOf which code) before r after
 
 -- parent: the code's own; 9; 11
 unfoldable pub parentRefusal : List ℕ → ℕ → ℕ
-parentRefusal code room =
-    codeRefusal code
-    then need (ltb 0 (depthOf code)) refusedRoot
-    then need (leb (codeLength (dimensionOf code) (depthOf code - 1)) room) refusedShort
+parentRefusal code room = firstRefusal (
+    own (codeRefusal code)
+    ∷ need (ltb 0 (depthOf code)) refusedRoot
+    ∷ need (leb (codeLength (dimensionOf code) (depthOf code - 1)) room) refusedShort
+    ∷ [])
 
 -- the code of the path without its last step
 pub record ParentOf (code answer : List ℕ) : Type 0 where
@@ -97,7 +114,5 @@ pub record ParentOf (code answer : List ℕ) : Type 0 where
   pub code-of : IsCodeOf code root (path ++ last ∷ [])
   pub is : answer ≡ codeOf root path
 
-pub record Parent (code before : List ℕ) (r : Written) (after : List ℕ) : Type 0 where
-  pub answer : List ℕ
-  pub writes : Writes (parentRefusal code (length before)) answer before r after
-  pub parent : parentRefusal code (length before) ≡ done → ParentOf code answer
+abbrev pub Parent : List ℕ → List ℕ → Written → List ℕ → Type 0
+Parent code before r after = Gives (parentRefusal code (length before)) (ParentOf code) before r after

@@ -1,29 +1,30 @@
--- Path to code and code to path: the order of their refusals, and their answers.
+-- Path to code and code to path: one law for each way out of the code.
 use mathlib.Core.Path.{_≡_, refl, sym, ap, _∙_, subst}
 use mathlib.Core.Bool.{Bool, true, false, not, _&&_}
 use mathlib.Core.List.{List, _++_}
 use mathlib.Core.Logic.{_≢_}
 use Prim.Native.Nat.{ℕ, _+_, _-_, _≤_, _<_}
 use native.Mathlib.Omega.{arith}
-use native.Mathlib.Nat.{zero-add}
 use lib.Dec.{leb}
-use lib.ListN.{length, getD, take, drop, length-append, length-take, length-drop, take-append-drop}
-use lib.Seq.{paste, take-at, drop-at, take-all}
-use borrow.Author.Tests.{le-leb, lt-leb, not-true}
-use Rattle.dimension.specs.Sizes.{isDimension, greatestDepth, codeLength, boxDepth}
-use Rattle.dimension.specs.Laws.{dimension}
+use lib.ListN.{length, getD, drop, length-append}
+use borrow.Author.Tests.{le-leb, lt-leb, not-true, not-false}
+use Rattle.dimension.specs.declared.Dim.{Dim}
+use Rattle.dimension.specs.Sizes.{isDimension, axesOf, greatestDepth, codeLength}
+use Rattle.dimension.specs.Laws.{dimension, axes-dimension}
 use Rattle.bisection.specs.Roots.{GoodRoot}
-use Rattle.bisection.specs.Codes.{axis, minus, bytes, codeOf, IsCodeOf, dimensionOf, depthOf, entriesOf, orthantsOf, partsOf}
-use Rattle.bisection.specs.Refusals.{refusedDimension, refusedDepth, refusedPermutation, refusedStep, refusedShort, need, _then_, each, permutes, codeRefusal, isRoot, isPath}
+use Rattle.bisection.specs.Codes.{axis, minus, bytes, codeOf, IsCodeOf, dimensionOf, depthOf}
+use Rattle.bisection.specs.Refusals.{done, refusedDimension, refusedDepth, refusedPermutation, refusedStep, refusedShort, each, permutes, codeRefusal, isRoot, isPath}
+use Rattle.bisection.specs.Theorems.Ladders.{first-is, all-hold, holds, fails, past, stops}
 use Rattle.bisection.specs.Theorems.Entries.{Signed}
-use Rattle.bisection.specs.Theorems.Paths.{plain-axis, pathTo, rootTo}
+use Rattle.bisection.specs.Theorems.Paths.{plain-axis}
 use Rattle.bisection.specs.Theorems.Checked.{both, each-at, permutes-signed}
-use Rattle.bisection.specs.Theorems.CodePaths.{name-passes, code-path, rootOf, pathOf, the-root, the-path, length-root, length-path-of}
+use Rattle.bisection.specs.Theorems.CodePaths.{name-passes, code-path, rootOf, pathOf, length-root, length-path-of}
+use Rattle.codes.specs.declared.Written.{Written}
 use Rattle.codes.specs.declared.PathWritten.{PathWritten}
-use Rattle.codes.specs.Outcomes.{pathRefusal, toPathRefusal, PathOf, CodeToPath}
-use Rattle.codes.specs.Heads.{fails, holds, last-fails, last-holds, first-stands, first-done}
-use Rattle.entries.specs.Passed.{Checked, checked}
-use Rattle.steps.specs.Climbs.{nameAbove, ClimbReady, Climbed}
+use Rattle.codes.specs.Outcomes.{pathRefusal, PathToCode, toPathRefusal, PathOf, CodeToPath}
+use Rattle.codes.specs.Writing.{refused-writes, done-writes}
+use Rattle.steps.specs.Descents.{CodeReady}
+use Rattle.steps.specs.Ascents.{PathStands}
 
 -- a root's bytes are a good root
 pub good-root : (root : List ℕ) → isDimension (length root) ≡ true → isRoot root ≡ true → GoodRoot root
@@ -50,157 +51,117 @@ pub code-of-length : (root path : List ℕ) → GoodRoot root → codeLength (le
 unfolding codeOf bytes codeLength
 code-of-length root path r = sym (simp length-append (omega (arith, name-passes r path .signed .size, name-passes r path .boxes .count)))
 
--- the order of refusals of path to code
-module _ (root path : List ℕ) (room : ℕ) where
-  abbrev pub after4 : ℕ
-  after4 = need (isPath path) refusedStep then need (leb (codeLength (length root) (length path)) room) refusedShort
-
-  abbrev pub after2 : ℕ
-  after2 = need (isRoot root) refusedPermutation then after4
-
-  abbrev pub after1 : ℕ
-  after1 = need (leb (length path) (greatestDepth (length root))) refusedDepth then after2
-
-  pub path-1 : isDimension (length root) ≡ false → pathRefusal root path room ≡ 1
+-- path to code: the ways out, in document 01's order
+module _ (root path before : List ℕ) where
+  pub path-dimension : {r : Written} → isDimension (length root) ≡ false → (r .refusal ≡ refusedDimension) × (r .length ≡ 0) → PathToCode root path before r before
   unfolding pathRefusal
-  path-1 e = fails (isDimension (length root)) 0 after1 e
+  path-dimension e f = refused-writes (first-is (fails e)) (omega arith) f
 
-  module _ (d : isDimension (length root) ≡ true) where
-    past-1 : pathRefusal root path room ≡ after1
+  -- as the code has the dimension and its greatest depth
+  module _ (dim : Dim) (axes : axesOf dim ≡ length root) {g : ℕ} (greatest : g ≡ greatestDepth (axesOf dim)) where
+    known : isDimension (length root) ≡ true
+    known = rw (← axes) (axes-dimension dim)
+
+    limit : greatestDepth (length root) ≡ g
+    limit = rw (← axes, greatest) refl
+
+    pub path-depth : {r : Written} → g < length path → (r .refusal ≡ refusedDepth) × (r .length ≡ 0) → PathToCode root path before r before
     unfolding pathRefusal
-    past-1 = holds (isDimension (length root)) refusedDimension after1 d
+    path-depth h f = refused-writes (first-is (holds known (fails (lt-leb (length path) (greatestDepth (length root)) (omega (arith, limit)))))) (omega arith) f
 
-    pub path-2 : greatestDepth (length root) < length path → pathRefusal root path room ≡ 2
-    path-2 h = past-1 ∙ fails (leb (length path) (greatestDepth (length root))) 1 after2 (lt-leb (length path) (greatestDepth (length root)) h)
+    -- and what the tests of the root and the path find
+    module _ (l : length path ≤ g) {rooted : Bool} (is-root : rooted ≡ isRoot root) where
+      deep : leb (length path) (greatestDepth (length root)) ≡ true
+      deep = le-leb (length path) (greatestDepth (length root)) (omega (arith, limit))
 
-    module _ (l : length path ≤ greatestDepth (length root)) where
-      past-2 : pathRefusal root path room ≡ after2
-      past-2 = past-1 ∙ holds (leb (length path) (greatestDepth (length root))) refusedDepth after2 (le-leb (length path) (greatestDepth (length root)) l)
+      pub path-permutation : {r : Written} → not rooted ≡ true → (r .refusal ≡ refusedPermutation) × (r .length ≡ 0) → PathToCode root path before r before
+      unfolding pathRefusal
+      path-permutation t f = refused-writes (first-is (holds known (holds deep (fails (sym is-root ∙ not-true rooted t))))) (omega arith) f
 
-      pub path-4 : isRoot root ≡ false → pathRefusal root path room ≡ 4
-      path-4 e = past-2 ∙ fails (isRoot root) 3 after4 e
+      module _ (t : not rooted ≡ false) {stepped : Bool} (is-path : stepped ≡ isPath path) where
+        permuted : isRoot root ≡ true
+        permuted = sym is-root ∙ not-false rooted t
 
-      module _ (r : isRoot root ≡ true) where
-        past-4 : pathRefusal root path room ≡ after4
-        past-4 = past-2 ∙ holds (isRoot root) refusedPermutation after4 r
+        root-good : GoodRoot root
+        root-good = good-root root known permuted
 
-        pub path-7 : isPath path ≡ false → pathRefusal root path room ≡ 7
-        path-7 e = past-4 ∙ fails (isPath path) 6 (need (leb (codeLength (length root) (length path)) room) refusedShort) e
+        pub path-step : {r : Written} → not stepped ≡ true → (r .refusal ≡ refusedStep) × (r .length ≡ 0) → PathToCode root path before r before
+        unfolding pathRefusal
+        path-step u f = refused-writes (first-is (holds known (holds deep (holds permuted (fails (sym is-path ∙ not-true stepped u)))))) (omega arith) f
 
-        module _ (s : isPath path ≡ true) where
-          past-7 : pathRefusal root path room ≡ need (leb (codeLength (length root) (length path)) room) refusedShort
-          past-7 = past-4 ∙ holds (isPath path) refusedStep (need (leb (codeLength (length root) (length path)) room) refusedShort) s
+        -- and the code's length
+        module _ (u : not stepped ≡ false) {n : ℕ} (long : n ≡ codeLength (axesOf dim) (length path)) where
+          steps : isPath path ≡ true
+          steps = sym is-path ∙ not-false stepped u
 
-          pub path-11 : room < codeLength (length root) (length path) → pathRefusal root path room ≡ 11
-          path-11 h = past-7 ∙ last-fails (leb (codeLength (length root) (length path)) room) refusedShort (lt-leb (codeLength (length root) (length path)) room h)
+          size : codeLength (length root) (length path) ≡ n
+          size = rw (← axes, long) refl
 
-          pub path-0 : codeLength (length root) (length path) ≤ room → pathRefusal root path room ≡ 0
-          path-0 h = past-7 ∙ last-holds (leb (codeLength (length root) (length path)) room) refusedShort (le-leb (codeLength (length root) (length path)) room h)
+          pub path-short : {r : Written} → length before < n → (r .refusal ≡ refusedShort) × (r .length ≡ 0) → PathToCode root path before r before
+          unfolding pathRefusal
+          path-short h f = refused-writes (first-is (holds known (holds deep (holds permuted (holds steps
+              (fails (lt-leb (codeLength (length root) (length path)) (length before) (omega (arith, size))))))))) (omega arith) f
 
--- code to path, refused
-pub to-path-refused : {code roots paths : List ℕ} {r : PathWritten} (number : ℕ) → toPathRefusal code (length roots) (length paths) ≡ number → number ≢ 0
-    → (r .refusal ≡ number) × (r .axes ≡ 0) × (r .depth ≡ 0) → CodeToPath code roots paths r roots paths
-to-path-refused number e n f = record { number = f .0 ∙ sym e; refused = λ q. (f .1, f .2, refl, refl); written = λ q. absurd (n (sym e ∙ q)) }
+          pub path-ready : n ≤ length before → CodeReady (axesOf dim) root path before
+          path-ready h = record { axes = axes; good-root = root-good; depth = omega arith; room = rw (← long) h }
 
-module _ (code : List ℕ) (rootRoom pathRoom : ℕ) where
-  abbrev pub fit : Bool
-  fit = leb (dimensionOf code) rootRoom && leb (depthOf code) pathRoom
+          pub path-done : {after : List ℕ} → n ≤ length before → after ≡ codeOf root path ++ drop (codeLength (axesOf dim) (length path)) before
+              → PathToCode root path before (record { refusal = done; length = n }) after
+          unfolding pathRefusal
+          path-done h g = done-writes (codeOf root path) (first-is (holds known (holds deep (holds permuted (holds steps
+              (holds (le-leb (codeLength (length root) (length path)) (length before) (omega (arith, size))) all-hold))))))
+              (sym size ∙ code-of-length root path root-good) (g ∙ ap (λ (m : ℕ). codeOf root path ++ drop m before) (sym long))
 
-  pub to-path-own : (x : ℕ) → x ≡ codeRefusal code → x ≢ 0 → toPathRefusal code rootRoom pathRoom ≡ x
+-- code to path: the ways out
+module _ (code roots paths : List ℕ) where
+  refused : {number : ℕ} {r : PathWritten} → toPathRefusal code (length roots) (length paths) ≡ number → number ≢ done
+      → (r .refusal ≡ number) × (r .axes ≡ 0) × (r .depth ≡ 0) → CodeToPath code roots paths r roots paths
+  refused e n f = record { number = f .0 ∙ sym e; refused = λ q. (f .1, f .2, refl, refl); written = λ q. absurd (n (sym e ∙ q)) }
+
+  pub to-path-own : {x : ℕ} {r : PathWritten} → x ≡ codeRefusal code → x ≢ done → (r .refusal ≡ x) × (r .axes ≡ 0) × (r .depth ≡ 0)
+      → CodeToPath code roots paths r roots paths
   unfolding toPathRefusal
-  to-path-own x e n = first-stands (codeRefusal code) (need fit refusedShort) (λ q. n (e ∙ q)) ∙ sym e
+  to-path-own e n f = refused (first-is (stops (sym e) n)) n f
 
-  module _ (p : codeRefusal code ≡ 0) where
-    past-own : toPathRefusal code rootRoom pathRoom ≡ need fit refusedShort
+  -- as the code has the code's refusal, its dimension and its depth
+  module _ {x a d D : ℕ} (e : x ≡ codeRefusal code) (z : x ≡ done) (named : a ≡ dimensionOf code) (same : d ≡ a) (dp : D ≡ depthOf code) where
+    p : codeRefusal code ≡ done
+    p = sym e ∙ z
+
+    ax : d ≡ dimensionOf code
+    ax = same ∙ named
+
+    wide : d ≤ length roots → leb (dimensionOf code) (length roots) ≡ true
+    wide l = le-leb (dimensionOf code) (length roots) (omega (arith, ax))
+
+    pub root-short : {r : PathWritten} → length roots < d → (r .refusal ≡ refusedShort) × (r .axes ≡ 0) × (r .depth ≡ 0) → CodeToPath code roots paths r roots paths
     unfolding toPathRefusal
-    past-own = first-done (codeRefusal code) (need fit refusedShort) p
+    root-short h f = refused (first-is (past p (fails (rw (lt-leb (dimensionOf code) (length roots) (omega (arith, ax))) refl)))) (omega arith) f
 
-    pub root-short : rootRoom < dimensionOf code → toPathRefusal code rootRoom pathRoom ≡ 11
-    root-short h = past-own ∙ last-fails fit refusedShort (rw (lt-leb (dimensionOf code) rootRoom h) refl)
+    pub path-room : {r : PathWritten} → d ≤ length roots → length paths < D → (r .refusal ≡ refusedShort) × (r .axes ≡ 0) × (r .depth ≡ 0)
+        → CodeToPath code roots paths r roots paths
+    unfolding toPathRefusal
+    path-room l h f = refused (first-is (past p (fails (rw (wide l, lt-leb (depthOf code) (length paths) (omega arith)) refl)))) (omega arith) f
 
-    pub path-short : dimensionOf code ≤ rootRoom → pathRoom < depthOf code → toPathRefusal code rootRoom pathRoom ≡ 11
-    path-short l h = past-own ∙ last-fails fit refusedShort (rw (le-leb (dimensionOf code) rootRoom l, lt-leb (depthOf code) pathRoom h) refl)
+    fits : d ≤ length roots → D ≤ length paths → toPathRefusal code (length roots) (length paths) ≡ done
+    unfolding toPathRefusal
+    fits l h = first-is (past p (holds (rw (wide l, le-leb (depthOf code) (length paths) (omega arith)) refl) all-hold))
 
-    pub to-path-0 : dimensionOf code ≤ rootRoom → depthOf code ≤ pathRoom → toPathRefusal code rootRoom pathRoom ≡ 0
-    to-path-0 l h = past-own ∙ last-holds fit refusedShort (rw (le-leb (dimensionOf code) rootRoom l, le-leb (depthOf code) pathRoom h) refl)
-
--- the climb from a code that passes, and what it leaves
-module _ (code roots paths : List ℕ) (e : codeRefusal code ≡ 0) (d D : ℕ) (ax : d ≡ dimensionOf code) (dp : D ≡ depthOf code) (lr : d ≤ length roots) (lp : D ≤ length paths) where
-  k : Checked code
-  k = checked code e
-
-  size : length code ≡ codeLength d D
-  size = rw (ax, dp) (k .size)
-
-  pub climb-copy : (2 + d ≤ length code) × (0 + d ≤ length roots)
-  unfolding codeLength
-  climb-copy = (omega (arith, size), omega arith)
-
-  start : List ℕ
-  start = paste roots 0 (drop 2 code) d
-
-  entries-size : length (take d (drop 2 code)) ≡ d
-  entries-size = simp (length-take, length-drop) (omega (arith, climb-copy))
-
-  start-is : start ≡ take d (drop 2 code) ++ drop d roots
-  unfolding start
-  start-is = rw (zero-add d) refl
-
-  start-size : length start ≡ length roots
-  start-size = rw start-is (length-append (take d (drop 2 code)) (drop d roots) ∙ rw (entries-size, length-drop d roots) (omega arith))
-
-  name-is : nameAbove d D code start ≡ partsOf code
-  unfolding nameAbove partsOf entriesOf orthantsOf
-  name-is = λ i. record { entries = first i; orthants = second i }
-    where
-      first : take d start ≡ take (dimensionOf code) (drop 2 code)
-      first = rw start-is (take-at (take d (drop 2 code)) (drop d roots) d entries-size) ∙ ap (λ (n : ℕ). take n (drop 2 code)) ax
-
-      second : take (boxDepth d D) (drop (2 + d) code) ≡ drop (2 + dimensionOf code) code
-      second = take-all (boxDepth d D) (drop (2 + d) code) (rw (length-drop (2 + d) code) (unfold codeLength in omega (arith, size))) ∙ ap (λ (n : ℕ). drop (2 + n) code) ax
-
-  ready : ClimbReady d D code start paths
-  ready = record { range = rw ax (k .range); size = omega (arith, size); axes = omega (arith, start-size); depth = lp; passes = rw (name-is, ax, dp) (k .good .passes) }
-
-  pub climb-ready-of : ClimbReady d D code (paste roots 0 (drop 2 code) d) paths
-  unfolding start
-  climb-ready-of = ready
-
-  c : IsCodeOf code (rootOf code) (pathOf code)
-  c = code-path code e
-
-  written : (root path : List ℕ) → Climbed d D code 0 start paths root path → PathOf code roots paths (record { refusal = 0; axes = d; depth = D }) root path
-  written root path w = record {
-    root = rootOf code;
-    path = pathOf code;
-    code-of = c;
-    axes = ax ∙ sym root-length;
-    depth = dp ∙ sym path-length;
-    root-written = sym (take-append-drop d root) ∙ rw (first, w .root-rest, behind) (ap (λ (n : ℕ). rootOf code ++ drop n roots) (ax ∙ sym root-length));
-    path-written = sym (take-append-drop D path) ∙ rw (second, w .path-rest) (ap (λ (n : ℕ). pathOf code ++ drop n paths) (dp ∙ sym path-length));
-  }
-    where
-      root-length : length (rootOf code) ≡ dimensionOf code
-      root-length = length-root c
-
-      path-length : length (pathOf code) ≡ depthOf code
-      path-length = length-path-of c
-
-      first : take d root ≡ rootOf code
-      first = unfold rootTo nameAbove rootOf in (w .the-root ∙ rw (name-is, ax, dp) refl)
-
-      whole : D - 0 ≡ D
-      whole = omega arith
-
-      second : take D path ≡ pathOf code
-      second = ap (λ (n : ℕ). take n path) (sym whole) ∙ unfold pathTo nameAbove pathOf in (w .the-path ∙ rw (name-is, ax, dp) refl)
-
-      behind : drop d start ≡ drop d roots
-      behind = rw start-is (drop-at (take d (drop 2 code)) (drop d roots) d entries-size)
-
-  pub to-path-done : (root path : List ℕ) → Climbed d D code 0 (paste roots 0 (drop 2 code) d) paths root path → CodeToPath code roots paths (record { refusal = 0; axes = d; depth = D }) root path
-  unfolding start
-  to-path-done root path w = record { number = sym done-is; refused = λ q. absurd (q done-is); written = λ q. written root path w }
-    where
-      done-is : toPathRefusal code (length roots) (length paths) ≡ 0
-      done-is = to-path-0 code (length roots) (length paths) e (omega (arith, ax)) (omega (arith, dp))
+    pub to-path-done : {roots' paths' : List ℕ} → d ≤ length roots → D ≤ length paths → PathStands code a D roots paths roots' paths'
+        → CodeToPath code roots paths (record { refusal = done; axes = d; depth = D }) roots' paths'
+    to-path-done l h w = record {
+      number = sym (fits l h);
+      refused = λ q. absurd (q (fits l h));
+      written = λ q. record {
+        root = rootOf code;
+        path = pathOf code;
+        code-of = c;
+        axes = ax ∙ sym (length-root c);
+        depth = dp ∙ sym (length-path-of c);
+        root-written = w .root-written ∙ ap (λ (n : ℕ). rootOf code ++ drop n roots) (named ∙ sym (length-root c));
+        path-written = w .path-written ∙ ap (λ (n : ℕ). pathOf code ++ drop n paths) (dp ∙ sym (length-path-of c));
+      };
+    }
+      where
+        c : IsCodeOf code (rootOf code) (pathOf code)
+        c = code-path code p

@@ -175,17 +175,16 @@ pub fn code_to_path(code: &[u8], root: &mut [u8], path: &mut [u8]) -> PathWritte
     if refusal != DONE {
         return path_refused(refusal);
     }
-    let dim = Dim::checked(code[0]);
+    let dim = check::dimension_of(code);
     let axes = dim.axes();
-    let depth = common::size(code[1]);
+    let depth = check::depth_of(code);
     if root.len() < axes {
         return path_refused(REFUSED_SHORT);
     }
     if path.len() < depth {
         return path_refused(REFUSED_SHORT);
     }
-    common::copy(code, 2, axes, root, 0);
-    walks::walk_up(code, dim, depth, root, path);
+    walks::write_path(code, dim, depth, root, path);
     PathWritten {
         refusal: DONE,
         axes,
@@ -199,27 +198,20 @@ pub fn vertices(code: &[u8], points: &mut [u8]) -> Written
 {
     let refusal = code_check(code);
     if refusal != DONE {
-        return Written {
-            refusal: refusal,
-            length: 0,
-        };
+        return refused(refusal);
     }
-    let d = Dim::checked(code[0]).axes();
-    let length = 2 * d * (d + 1);
+    let length = check::dimension_of(code).points_length();
     if points.len() < length {
-        return Written {
-            refusal: REFUSED_SHORT,
-            length: 0,
-        };
+        return refused(REFUSED_SHORT);
     }
     corners::write_cell(code, points);
     Written {
         refusal: DONE,
-        length: length,
+        length,
     }
 }
 
-// The child of a code's cell, child 0 or 1.
+// The child of a code's cell, child 0 or 1: the code of the path with one step more.
 pub fn child(code: &[u8], which: u8, out: &mut [u8]) -> Written
     ensures { λ r. ⌜ Child (now (code .entry)) which (now (out .entry)) r (now (out .exit)) ⌝ }
 {
@@ -230,8 +222,8 @@ pub fn child(code: &[u8], which: u8, out: &mut [u8]) -> Written
     if 1 < which {
         return refused(REFUSED_STEP);
     }
-    let dim = Dim::checked(code[0]);
-    let depth = common::size(code[1]);
+    let dim = check::dimension_of(code);
+    let depth = check::depth_of(code);
     if dim.greatest_depth() <= depth {
         return refused(REFUSED_DEEPEST);
     }
@@ -254,11 +246,11 @@ pub fn parent(code: &[u8], out: &mut [u8]) -> Written
     if refusal != DONE {
         return refused(refusal);
     }
-    let depth = common::size(code[1]);
+    let depth = check::depth_of(code);
     if depth == 0 {
         return refused(REFUSED_ROOT);
     }
-    let dim = Dim::checked(code[0]);
+    let dim = check::dimension_of(code);
     let length = dim.code_length(depth - 1);
     if out.len() < length {
         return refused(REFUSED_SHORT);

@@ -6,9 +6,9 @@ use Prim.Native.Nat.{ℕ, _+_, _≤_, _<_}
 use native.Mathlib.Omega.{arith}
 use lib.ListN.{length, getD, take, drop, length-take, length-drop}
 use lib.Seq.{getD-take, getD-drop}
-use Rattle.dimension.specs.Sizes.{boxDepth, boxSide, sideAfter, splitPlace, greatestDepth}
+use Rattle.dimension.specs.Sizes.{boxDepth, boxSide, sideAfter, splitPlace, greatestDepth, pointsLength}
 use Rattle.dimension.specs.Laws.{Dimension, dimension, side-first, side-of, cube-two-bytes}
-use Rattle.bisection.specs.Cells.{cellOf, cellBytes, cellLength}
+use Rattle.bisection.specs.Cells.{cellOf, cellBytes}
 use Rattle.bisection.specs.Codes.{axis, minus, IsCodeOf, dimensionOf, depthOf, entriesOf, orthantsOf, partsOf}
 use Rattle.bisection.specs.Refusals.{done, codeRefusal}
 use Rattle.bisection.specs.Theorems.Axis.{closed}
@@ -24,11 +24,11 @@ use Rattle.corners.specs.Points.{Column, ColumnReady, Columns, columns-n
 -- a code that passes, and room for its points
 pub record CellReady (code : List ℕ) (room : ℕ) : Type 0 where
   pub passing : codeRefusal code ≡ done
-  pub space : cellLength (dimensionOf code) ≤ room
+  pub space : pointsLength (dimensionOf code) ≤ room
 
 -- the cell of the code stands at the front
 pub record CellWritten (code before after : List ℕ) : Type 0 where
-  pub is : after ≡ cellBytes (cellOf (rootOf code) (pathOf code)) ++ drop (cellLength (dimensionOf code)) before
+  pub is : after ≡ cellBytes (cellOf (rootOf code) (pathOf code)) ++ drop (pointsLength (dimensionOf code)) before
 
 -- the coordinate of vertex j on the axis of entry i
 abbrev pub drawnAt : List ℕ → ℕ → ℕ → ℕ
@@ -57,7 +57,7 @@ module _ (code : List ℕ) (e : codeRefusal code ≡ done) where
   code-reads : (i : ℕ) → i < dimensionOf code → (j : ℕ) → j ≤ dimensionOf code → along (cellOf (rootOf code) (pathOf code)) (axis (getD (entriesOf code) i 0)) j ≡ drawnAt code i j
   code-reads = unfold partsOf in drawn-code .reads
 
-  pub code-written : {before after : List ℕ} → cellLength (dimensionOf code) ≤ length before → Columns (dimensionOf code) (entriesOf code) (drawnAt code) (dimensionOf code) before after → CellWritten code before after
+  pub code-written : {before after : List ℕ} → pointsLength (dimensionOf code) ≤ length before → Columns (dimensionOf code) (entriesOf code) (drawnAt code) (dimensionOf code) before after → CellWritten code before after
   code-written h c = record { is = columns-all (omega (arith, code-dimension .two)) code-signed (cellOf (rootOf code) (pathOf code)) (drawn-code .sized) code-reads h c }
 
   -- the line of an entry
@@ -130,7 +130,7 @@ module _ (code : List ℕ) (e : codeRefusal code ≡ done) (n : ℕ) (q : n ≡ 
     below : i < dimensionOf code
     below = omega (arith, q)
 
-    pub column-ready : (room : ℕ) → cellLength (dimensionOf code) ≤ room → ColumnReady n a l room
+    pub column-ready : (room : ℕ) → pointsLength (dimensionOf code) ≤ room → ColumnReady n a l room
     column-ready room s = rw q (record {
       few = omega (arith, code-dimension code e .few);
       low = axis-low code e i below a qa;
@@ -142,5 +142,5 @@ module _ (code : List ℕ) (e : codeRefusal code ≡ done) (n : ℕ) (q : n ≡ 
     pub cell-next : {before now after : List ℕ} → Columns (dimensionOf code) (entriesOf code) (drawnAt code) i before now → Column n a (onLine l) (n + 1) now after → Columns (dimensionOf code) (entriesOf code) (drawnAt code) (i + 1) before after
     cell-next c p = columns-next (code-signed code e) below c a (code-axis code e i below a qa) (onLine l) (line-drawn code e o) (rw q at p)
 
-  pub cell-all : {before after : List ℕ} → cellLength (dimensionOf code) ≤ length before → (i : ℕ) → i ≤ n → n ≤ i → Columns (dimensionOf code) (entriesOf code) (drawnAt code) i before after → CellWritten code before after
+  pub cell-all : {before after : List ℕ} → pointsLength (dimensionOf code) ≤ length before → (i : ℕ) → i ≤ n → n ≤ i → Columns (dimensionOf code) (entriesOf code) (drawnAt code) i before after → CellWritten code before after
   cell-all {before} {after} s i h l c = code-written code e s (subst (λ (m : ℕ). Columns (dimensionOf code) (entriesOf code) (drawnAt code) m before after) (omega arith) c)

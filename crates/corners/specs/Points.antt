@@ -10,7 +10,8 @@ use native.Mathlib.Decide.{decLt, ℕ-discrete}
 use lib.Arith.{digits-lt, digits-div, digits-mod}
 use lib.ListN.{length, getD, drop, set, length-set, length-append, length-drop, List·getD-append}
 use lib.Seq.{getD-set-same, getD-set-other, getD-append-add, getD-drop, ext-getD}
-use Rattle.bisection.specs.Cells.{Point, Cell, vertex, pointBytes, cellBytes, cellLength}
+use Rattle.dimension.specs.Sizes.{pointsLength}
+use Rattle.bisection.specs.Cells.{Point, Cell, vertex, pointBytes, cellBytes}
 use Rattle.bisection.specs.Codes.{axis}
 use Rattle.bisection.specs.Theorems.Entries.{Signed, Stands, stands}
 use Rattle.bisection.specs.Theorems.Drawn.{Sized, along}
@@ -48,12 +49,12 @@ put-keeps {n} p m y h q = record {
 abbrev pub spot : ℕ → ℕ → ℕ → ℕ
 spot d j a = j * d + (a - 1)
 
-cell-twice : (d : ℕ) → cellLength d ≡ 2 * (suc d * d)
-unfolding cellLength
+cell-twice : (d : ℕ) → pointsLength d ≡ 2 * (suc d * d)
+unfolding pointsLength
 cell-twice d = mul-left-comm (suc d) 2 d
 
 module _ (d j a : ℕ) (l : 1 ≤ a) (u : a ≤ d) where
-  pub spot-under : j ≤ d → 2 * spot d j a + 1 < cellLength d
+  pub spot-under : j ≤ d → 2 * spot d j a + 1 < pointsLength d
   spot-under h = omega (arith, cell-twice d, digits-lt {q = j} {m = suc d} {r = a - 1} {c = d} (omega arith) (omega arith))
 
   spot-vertex : spot d j a / d ≡ j
@@ -73,13 +74,13 @@ pub record Column (d a : ℕ) (x : ℕ → ℕ) (n : ℕ) (before after : List �
   pub size : length after ≡ length before
   pub here : (j : ℕ) → j < n → Holds after (spot d j a) (x j)
   pub others : (j b : ℕ) → 1 ≤ b → b ≤ d → b ≢ a → (y : ℕ) → Holds before (spot d j b) y → Holds after (spot d j b) y
-  pub past : (p : ℕ) → cellLength d ≤ p → getD after p 0 ≡ getD before p 0
+  pub past : (p : ℕ) → pointsLength d ≤ p → getD after p 0 ≡ getD before p 0
 
 pub record ColumnReady (d a : ℕ) (line : Line) (room : ℕ) : Type 0 where
   pub few : d ≤ 8
   pub low : 1 ≤ a
   pub high : a ≤ d
-  pub space : cellLength d ≤ room
+  pub space : pointsLength d ≤ room
   pub fair : Fair line d
 
 pub column-none : (d a : ℕ) (x : ℕ → ℕ) (l : List ℕ) → Column d a x 0 l l
@@ -144,8 +145,8 @@ module _ {d : ℕ} {vs : Cell} (z : Sized d vs) where
   unfolding Dims
   dims-of j h = z .dims j (omega (arith, z .size))
 
-  pub cell-length : length (cellBytes vs) ≡ cellLength d
-  unfolding cellLength
+  pub cell-length : length (cellBytes vs) ≡ pointsLength d
+  unfolding pointsLength
   cell-length = cell-size d vs dims-of ∙ ap (λ (n : ℕ). n * (2 * d)) (z .size)
 
   pub cell-holds : (j a : ℕ) → j ≤ d → 1 ≤ a → a ≤ d → Holds (cellBytes vs) (spot d j a) (along vs a j)
@@ -181,7 +182,7 @@ same-bytes l k q x a b p e = go (ℕ-discrete (p % 2) 0)
 pub record Columns (d : ℕ) (es : List ℕ) (x : ℕ → ℕ → ℕ) (i : ℕ) (before after : List ℕ) : Type 0 where
   pub size : length after ≡ length before
   pub filled : (t : ℕ) → t < i → (j : ℕ) → j ≤ d → Holds after (spot d j (axis (getD es t 0))) (x t j)
-  pub past : (p : ℕ) → cellLength d ≤ p → getD after p 0 ≡ getD before p 0
+  pub past : (p : ℕ) → pointsLength d ≤ p → getD after p 0 ≡ getD before p 0
 
 pub columns-none : (d : ℕ) (es : List ℕ) (x : ℕ → ℕ → ℕ) (l : List ℕ) → Columns d es x 0 l l
 columns-none d es x l = record { size = refl; filled = λ t h. absurd (omega arith); past = λ p h. refl }
@@ -200,14 +201,14 @@ columns-next {d} {es} {x} {i} {before} {l} {after} g h c a e y same p = record {
 
 -- all of them: the front is the cell's bytes
 pub columns-all : {d : ℕ} {es : List ℕ} {x : ℕ → ℕ → ℕ} {before after : List ℕ} → 0 < d → Signed d es → (vs : Cell) → Sized d vs
-    → ((i : ℕ) → i < d → (j : ℕ) → j ≤ d → along vs (axis (getD es i 0)) j ≡ x i j) → cellLength d ≤ length before → Columns d es x d before after
-    → after ≡ cellBytes vs ++ drop (cellLength d) before
-columns-all {d} {es} {x} {before} {after} d0 g vs z is room c = ext-getD 0 after (cellBytes vs ++ drop (cellLength d) before) sizes (λ p h. go p (decLt p (cellLength d)))
+    → ((i : ℕ) → i < d → (j : ℕ) → j ≤ d → along vs (axis (getD es i 0)) j ≡ x i j) → pointsLength d ≤ length before → Columns d es x d before after
+    → after ≡ cellBytes vs ++ drop (pointsLength d) before
+columns-all {d} {es} {x} {before} {after} d0 g vs z is room c = ext-getD 0 after (cellBytes vs ++ drop (pointsLength d) before) sizes (λ p h. go p (decLt p (pointsLength d)))
   where
-    sizes : length after ≡ length (cellBytes vs ++ drop (cellLength d) before)
+    sizes : length after ≡ length (cellBytes vs ++ drop (pointsLength d) before)
     sizes = simp (length-append, length-drop) (omega (arith, c .size, cell-length z))
 
-    front : (p : ℕ) → p < cellLength d → getD after p 0 ≡ getD (cellBytes vs) p 0
+    front : (p : ℕ) → p < pointsLength d → getD after p 0 ≡ getD (cellBytes vs) p 0
     front p h = same-bytes after (cellBytes vs) (spot d j (r + 1)) (along vs (r + 1) j) held (cell-holds z j (r + 1) jd (omega arith) (omega (arith, rd))) p at
       where
         j : ℕ
@@ -231,12 +232,12 @@ columns-all {d} {es} {x} {before} {after} d0 g vs z is room c = ext-getD 0 after
         held : Holds after (spot d j (r + 1)) (along vs (r + 1) j)
         held = subst (λ (a : ℕ). Holds after (spot d j a) (along vs a j)) (t .is) (rw (is (t .place) (t .below) j jd) (c .filled (t .place) (t .below) j jd))
 
-    go : (p : ℕ) → Dec (p < cellLength d) → getD after p 0 ≡ getD (cellBytes vs ++ drop (cellLength d) before) p 0
-    go p (yes h) = front p h ∙ sym (List·getD-append (cellBytes vs) (drop (cellLength d) before) 0 p (omega (arith, cell-length z)))
-    go p (no h) = c .past p (omega arith) ∙ sym (ap (λ (n : ℕ). getD (cellBytes vs ++ drop (cellLength d) before) n 0) at ∙ getD-append-add (cellBytes vs) (drop (cellLength d) before) (p - cellLength d) 0 ∙ getD-drop (cellLength d) before (p - cellLength d) 0 ∙ ap (λ (n : ℕ). getD before n 0) back)
+    go : (p : ℕ) → Dec (p < pointsLength d) → getD after p 0 ≡ getD (cellBytes vs ++ drop (pointsLength d) before) p 0
+    go p (yes h) = front p h ∙ sym (List·getD-append (cellBytes vs) (drop (pointsLength d) before) 0 p (omega (arith, cell-length z)))
+    go p (no h) = c .past p (omega arith) ∙ sym (ap (λ (n : ℕ). getD (cellBytes vs ++ drop (pointsLength d) before) n 0) at ∙ getD-append-add (cellBytes vs) (drop (pointsLength d) before) (p - pointsLength d) 0 ∙ getD-drop (pointsLength d) before (p - pointsLength d) 0 ∙ ap (λ (n : ℕ). getD before n 0) back)
       where
-        at : p ≡ length (cellBytes vs) + (p - cellLength d)
+        at : p ≡ length (cellBytes vs) + (p - pointsLength d)
         at = omega (arith, cell-length z)
 
-        back : cellLength d + (p - cellLength d) ≡ p
+        back : pointsLength d + (p - pointsLength d) ≡ p
         back = omega arith

@@ -10,7 +10,7 @@ use lib.Dec.{T}
 use lib.ListN.{length, getD, take, drop, set, length-append}
 use lib.Seq.{slice, drop-length, set-append-left, take-at, drop-at}
 use borrow.Author.Tests.{eq-eqb, ne-eqb}
-use Rattle.dimension.specs.Sizes.{halvings, codeLength, splitPlace}
+use Rattle.dimension.specs.Sizes.{codeLength, longestOfAll, splitPlace}
 use Rattle.bisection.specs.Codes.{axis, minus, negated, high, Name, bytes, dimensionOf, depthOf, entriesOf, orthantsOf, partsOf}
 use Rattle.bisection.specs.Refusals.{done, codeRefusal}
 use Rattle.bisection.specs.Theorems.Entries.{axis-negated, minus-negated}
@@ -156,7 +156,7 @@ module _ {code : List ℕ} {d at e i : ℕ} (r : Leaving code d at e i) where
   pub leaving-long : 4 ≤ length code
   leaving-long = omega (arith, leaving-room, r .axes, k' .range .two)
 
-  pub leaving-most : length code ≤ 6 + halvings
+  pub leaving-most : length code ≤ longestOfAll
   leaving-most = code-few k'
 
   pub leaving-at : 2 + at < length code

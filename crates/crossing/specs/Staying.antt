@@ -10,7 +10,7 @@ use lib.Dec.{eqb}
 use lib.ListN.{length, getD, drop, length-append, List·getD-append}
 use lib.Seq.{take-at}
 use borrow.Author.Tests.{ne-eqb}
-use Rattle.dimension.specs.Sizes.{halvings, codeLength, splitPlace}
+use Rattle.dimension.specs.Sizes.{codeLength, longestOfAll, splitPlace}
 use Rattle.dimension.specs.Laws.{split-range}
 use Rattle.bisection.specs.Codes.{axis, minus, high, Name, bytes, dimensionOf, depthOf, entriesOf, orthantsOf, partsOf}
 use Rattle.bisection.specs.Refusals.{done, sameSign, ownMinus, codeRefusal}
@@ -86,7 +86,7 @@ module _ {code : List ℕ} {d k i : ℕ} (r : Staying code d k i) where
   pub staying-long : 4 ≤ length code
   staying-long = omega (arith, staying-room, r .axes, c .range .two)
 
-  pub staying-most : length code ≤ 6 + halvings
+  pub staying-most : length code ≤ longestOfAll
   staying-most = code-few c
 
   pub staying-few : d ≤ 8

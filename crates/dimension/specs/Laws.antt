@@ -4,7 +4,8 @@ use mathlib.Core.Bool.{Bool, true, false, cond, _||_}
 use mathlib.Core.Logic.{_⊎_, inl, inr}
 use Prim.Native.Nat.{ℕ, zero, suc, _+_, _*_, _/_, _%_, _-_, _^_, _≤_, _<_}
 use native.Mathlib.Omega.{arith}
-use native.Mathlib.Nat.{div-add-mod', mod-lt, div-div-eq-div-mul, div-lt-iff-lt-mul, mul-div-right, zero-div, zero-mod, eq-of-mul-eq-mul-left, mul-lt-mul-of-pos-right, mul-le-mul-left, mul-le-mul, le-div-iff-mul-le, div-mul-le-self, mul-assoc, lt-of-mul-lt-mul-right, mul-le-mul-right, mul-div-mul-right, mod-eq-sub-mul-div, mul-div-le}
+use native.Mathlib.Numerals.{add-one}
+use native.Mathlib.Nat.{mul-comm, div-add-mod', mod-lt, div-div-eq-div-mul, div-lt-iff-lt-mul, mul-div-right, zero-div, zero-mod, eq-of-mul-eq-mul-left, mul-lt-mul-of-pos-right, mul-le-mul-left, mul-le-mul, le-div-iff-mul-le, div-mul-le-self, mul-assoc, lt-of-mul-lt-mul-right, mul-le-mul-right, mul-div-mul-right, mod-eq-sub-mul-div, mul-div-le}
 use native.Mathlib.Decide.{decLt, ℕ-discrete}
 use lib.Arith.{digits-div, digits-mod}
 use lib.Pow.{pow-add, pow-pos, pow-lt}
@@ -12,7 +13,7 @@ use lib.Dec.{T, eqb, eqb·suc-zero, lit<, lit≤}
 use borrow.Author.Tests.{eq-eqb, ne-eqb}
 use Rattle.dimension.specs.declared.Dim.{Dim}
 use Rattle.dimension.specs.declared.Dim.the-variants.{Two, Three, Four}
-use Rattle.dimension.specs.Sizes.{isDimension, axesOf, halvings, cubeSide, greatestDepth, boxDepth, level, splitPlace, sideAfter, boxSide, codeLength, longestCode, rootCount}
+use Rattle.dimension.specs.Sizes.{isDimension, axesOf, halvings, cubeSide, greatestDepth, boxDepth, level, splitPlace, sideAfter, boxSide, codeLength, longestCode, mostAxes, longestOfAll, pointsLength, rootCount}
 
 -- the three dimensions: at least two axes, and few enough that an axis and its sign fit a byte
 pub record Dimension (d : ℕ) : Type 0 where
@@ -120,6 +121,23 @@ module _ (d D : ℕ) (d0 : 0 < d) where
   pub box-under : D < greatestDepth d → boxDepth d D < halvings
   unfolding boxDepth greatestDepth
   box-under h = div-lt-iff-lt-mul d0 .1 h
+
+-- no code is longer than the longest of all dimensions
+pub longest-is : longestOfAll ≡ 2 + mostAxes + halvings
+unfolding longestOfAll longestCode codeLength boxDepth greatestDepth mostAxes halvings
+longest-is = refl
+
+pub code-longest : (d D : ℕ) → Dimension d → D ≤ greatestDepth d → codeLength d D ≤ longestOfAll
+unfolding codeLength mostAxes
+code-longest d D n h = omega (arith, n .few, box-in d D (omega (arith, n .two)) h, longest-is)
+
+-- the length of a cell's points, as the code computes it
+pub points-is : (d : ℕ) → 2 * d * (d + 1) ≡ pointsLength d
+unfolding pointsLength
+points-is d = mul-comm (2 * d) (d + 1) ∙ ap (λ (n : ℕ). n * (2 * d)) (add-one d)
+
+pub points-few : (d : ℕ) → d ≤ 4 → 2 * d * (d + 1) < 2 ^ 16
+points-few d h = omega (arith, mul-le-mul {n₁ = 2 * d} {m₁ = d + 1} {n₂ = 8} {m₂ = 5} (omega arith) (omega arith))
 
 pub depth-same : (d D E : ℕ) → 0 < d → boxDepth d D ≡ boxDepth d E → splitPlace d D ≡ splitPlace d E → D ≡ E
 depth-same d D E d0 e f = sym (depth-parts d D d0) ∙ rw (e, f) (depth-parts d E d0)

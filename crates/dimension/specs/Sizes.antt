@@ -54,6 +54,17 @@ codeLength d D = 2 + d + boxDepth d D
 unfoldable pub longestCode : ℕ → ℕ
 longestCode d = codeLength d (greatestDepth d)
 
+-- the most axes that a dimension has, and the longest code of all dimensions
+unfoldable pub mostAxes : ℕ
+mostAxes = 4
+
+unfoldable pub longestOfAll : ℕ
+longestOfAll = longestCode mostAxes
+
+-- the length of a cell's points: d + 1 points of d coordinates of two bytes
+unfoldable pub pointsLength : ℕ → ℕ
+pointsLength d = suc d * (2 * d)
+
 -- there are d! roots
 unfoldable pub rootCount : ℕ → ℕ
 rootCount zero = 1

@@ -4,7 +4,7 @@
 ghost use mathlib.Core.Path.{_≡_};
 ghost use mathlib.Core.Bool.{true};
 ghost use Prim.Native.Nat.{_*_, _≤_};
-ghost use Rattle.dimension.specs.Sizes.{isDimension, axesOf, greatestDepth, boxDepth, splitPlace, boxSide, codeLength, longestCode, rootCount};
+ghost use Rattle.dimension.specs.Sizes.{isDimension, axesOf, greatestDepth, boxDepth, splitPlace, boxSide, codeLength, longestCode, pointsLength, rootCount};
 ghost use Rattle.dimension.specs.Known.{KnownIs};
 
 // A dimension that is built.
@@ -27,6 +27,8 @@ impl Dim {
     pub const CUBE_SIDE: u16 = 4096;
     // The most axes that a dimension has.
     pub const MOST_AXES: usize = 4;
+    // The length of the longest code of all dimensions.
+    pub const LONGEST_CODE: usize = 2 + Dim::MOST_AXES + Dim::HALVINGS;
 
     // The dimension of so many axes, if it is built.
     pub fn of(axes: usize) -> Known
@@ -123,6 +125,14 @@ impl Dim {
         ensures { λ r. ⌜ r ≡ longestCode (axesOf self) ⌝ }
     {
         self.code_length(self.greatest_depth())
+    }
+
+    // The length of a cell's points: one more than the axes, two bytes for each coordinate.
+    pub fn points_length(self) -> usize
+        ensures { λ r. ⌜ r ≡ pointsLength (axesOf self) ⌝ }
+    {
+        let axes = self.axes();
+        2 * axes * (axes + 1)
     }
 
     // The side of the box of a cell at a depth.

@@ -4,8 +4,8 @@ use mathlib.Core.List.{List}
 use Prim.Native.Nat.{ℕ, _+_, _-_, _≤_}
 use native.Mathlib.Omega.{arith}
 use lib.ListN.{length, length-append}
-use Rattle.dimension.specs.Sizes.{halvings, codeLength, boxDepth}
-use Rattle.dimension.specs.Laws.{Dimension, dimension, box-in}
+use Rattle.dimension.specs.Sizes.{codeLength, longestOfAll, boxDepth}
+use Rattle.dimension.specs.Laws.{Dimension, dimension, code-longest}
 use Rattle.bisection.specs.Codes.{bytes, dimensionOf, depthOf, partsOf}
 use Rattle.bisection.specs.Refusals.{done, codeRefusal}
 use Rattle.bisection.specs.Theorems.Checked.{Good, good}
@@ -26,9 +26,8 @@ checked code e = record { good = g; size = ap length (g .is) ∙ size; range = d
     size = unfold bytes in simp length-append (omega (arith, g .passes .signed .size, g .passes .boxes .count))
 
 -- no code is longer than the longest
-pub code-few : {code : List ℕ} → Checked code → length code ≤ 6 + halvings
-unfolding codeLength
-code-few {code} k = omega (arith, k .size, k .range .few, box-in (dimensionOf code) (depthOf code) (omega (arith, k .range .two)) (k .good .depth))
+pub code-few : {code : List ℕ} → Checked code → length code ≤ longestOfAll
+code-few {code} k = omega (arith, k .size, code-longest (dimensionOf code) (depthOf code) (k .range) (k .good .depth))
 
 -- and it has a head
 pub checked-two : (code : List ℕ) → codeRefusal code ≡ done → 2 ≤ length code

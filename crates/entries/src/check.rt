@@ -1,14 +1,31 @@
-// The tests of a code's body: its permutation, its orthant bytes, its signs. Each is a walk over lent bytes.
+// The tests of a code's body: its permutation, its orthant bytes, its signs. Each is a walk over lent bytes. And what is read off
+// a code that passes.
 ghost use mathlib.Core.Path.{_≡_};
 ghost use Prim.Native.Nat.{_+_, _-_, _≤_, _<_};
 ghost use lib.ListN.{length, drop};
 ghost use mathlib.Core.Bool.{cond};
 ghost use lib.Dec.{ltb};
-ghost use Rattle.dimension.specs.Sizes.{halvings};
-ghost use Rattle.bisection.specs.Codes.{axis, minus, high};
-ghost use Rattle.bisection.specs.Refusals.{permutes, orthantsFit, sameSign, isRoot, isPath};
+ghost use Rattle.dimension.specs.Sizes.{axesOf, halvings};
+ghost use Rattle.bisection.specs.Codes.{axis, minus, high, dimensionOf, depthOf};
+ghost use Rattle.bisection.specs.Refusals.{done, codeRefusal, permutes, orthantsFit, sameSign, isRoot, isPath};
 ghost use Rattle.entries.specs.Walks.{ownByte, signsBy, AxesWithin};
 use dimension::Dim;
+
+// The dimension of a code that passes.
+pub fn dimension_of(code: &[u8]) -> Dim
+    requires { ⌜ codeRefusal (now code) ≡ done ⌝ }
+    ensures { λ r. ⌜ axesOf r ≡ dimensionOf (now (code .entry)) ⌝ }
+{
+    Dim::checked(code[0])
+}
+
+// The depth of a code that passes.
+pub fn depth_of(code: &[u8]) -> usize
+    requires { ⌜ codeRefusal (now code) ≡ done ⌝ }
+    ensures { λ r. ⌜ r ≡ depthOf (now (code .entry)) ⌝ }
+{
+    common::size(code[1])
+}
 
 // The place, or the first one where there are no more than n. A walk that reads a place again instead of ending has one length
 // for every code: a loop whose end is not foreseen costs more than the steps it saves.

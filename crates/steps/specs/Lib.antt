@@ -9,3 +9,4 @@ pub mod Parents
 pub mod Descents
 pub mod Above
 pub mod Climbs
+pub mod Ascents

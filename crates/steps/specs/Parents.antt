@@ -5,7 +5,7 @@ use Prim.Native.Nat.{ℕ, zero, suc, _+_, _-_, _≤_, _<_}
 use native.Mathlib.Omega.{arith}
 use lib.ListN.{length, getD, take, drop, set, length-append, length-take, length-drop, length-set, List·getD-append}
 use lib.Seq.{take-append-le, take-append-add, drop-append-le}
-use Rattle.dimension.specs.Sizes.{halvings, codeLength, splitPlace, boxDepth}
+use Rattle.dimension.specs.Sizes.{codeLength, longestOfAll, splitPlace, boxDepth}
 use Rattle.dimension.specs.Laws.{split-range}
 use Rattle.bisection.specs.Codes.{axis, negated, high, Name, bytes, dimensionOf, depthOf, orthantsOf, partsOf}
 use Rattle.bisection.specs.Refusals.{ownMinus}
@@ -64,7 +64,7 @@ module _ {code out : List ℕ} {d D : ℕ} (r : ParentReady code d D out) where
   unfolding codeLength
   parent-four = omega (arith, r .axes, k .range .two)
 
-  pub parent-few : codeLength d D ≤ 6 + halvings
+  pub parent-few : codeLength d D ≤ longestOfAll
   parent-few = omega (arith, parent-front, code-few k)
 
   pub parent-two : 2 ≤ length code

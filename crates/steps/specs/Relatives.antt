@@ -6,10 +6,11 @@ use Prim.Native.Nat.{ℕ, suc, _+_, _-_, _≤_, _<_}
 use native.Mathlib.Omega.{arith}
 use lib.ListN.{length, getD, take, drop, set, length-append, length-take, length-drop, length-set, take-append-drop}
 use lib.Seq.{getD-take, getD-drop, drop-append-add, take-at, drop-at, take-all, drop-drop, drop-set-lt}
-use Rattle.dimension.specs.Sizes.{halvings, codeLength, boxDepth}
+use Rattle.dimension.specs.Sizes.{codeLength, longestOfAll, boxDepth}
 use Rattle.dimension.specs.Laws.{depth-small, Within, Turned, deeper}
-use Rattle.bisection.specs.Codes.{Name, step, bytes, dimensionOf, depthOf, partsOf, childCode}
+use Rattle.bisection.specs.Codes.{Name, step, bytes, dimensionOf, depthOf, partsOf}
 use Rattle.bisection.specs.Refusals.{done, codeRefusal}
+use Rattle.bisection.specs.Theorems.CodePaths.{childCode}
 use Rattle.bisection.specs.Theorems.Passing.{Passes}
 use Rattle.bisection.specs.Theorems.Checked.{good}
 use Rattle.steps.specs.Steps.{nameIn, StepsTo}
@@ -105,7 +106,7 @@ module _ {code out : List ℕ} {d D : ℕ} (r : ChildReady code d D out) where
   unfolding codeLength
   child-four = omega (arith, size, r .axes, k .range .two)
 
-  pub child-few : length code ≤ 6 + halvings
+  pub child-few : length code ≤ longestOfAll
   child-few = code-few k
 
   pub child-two : 2 ≤ length code

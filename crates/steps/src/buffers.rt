@@ -3,7 +3,7 @@ ghost use mathlib.Core.Path.{_≡_};
 ghost use Prim.Native.Nat.{suc, _+_, _≤_, _<_};
 ghost use lib.ListN.{length, getD, take, drop};
 ghost use mathlib.Core.List.{_++_};
-ghost use Rattle.dimension.specs.Sizes.{halvings};
+ghost use Rattle.dimension.specs.Sizes.{longestOfAll};
 ghost use Rattle.bisection.specs.Codes.{axis, turned, orthant};
 ghost use Rattle.bisection.specs.Theorems.Entries.{Signed, unturned};
 ghost use Rattle.steps.specs.Buffers.{atPlace};
@@ -12,7 +12,7 @@ use dimension::Dim;
 use entries::check;
 
 // Where the last four bytes of the longest code begin.
-const LAST_FOUR: usize = 2 + Dim::MOST_AXES + Dim::HALVINGS - 4;
+const LAST_FOUR: usize = Dim::LONGEST_CODE - 4;
 
 // Copies the four bytes from a place on.
 fn copy_four(src: &[u8], at: usize, dst: &mut [u8])
@@ -32,7 +32,7 @@ fn copy_four(src: &[u8], at: usize, dst: &mut [u8])
 // Copies the first n bytes of a code, four at a time: every code has four. Where there are fewer than the longest code has, it
 // copies the first four again; the last four may have been copied in part.
 pub fn copy_front(code: &[u8], n: usize, out: &mut [u8])
-    requires { ⌜ (4 ≤ n) × (n ≤ 6 + halvings) × (n ≤ length (now code)) × (n ≤ length (now out)) ⌝ }
+    requires { ⌜ (4 ≤ n) × (n ≤ longestOfAll) × (n ≤ length (now code)) × (n ≤ length (now out)) ⌝ }
     ensures { λ r. ⌜ now (out .exit) ≡ take n (now (code .entry)) ++ drop n (now (out .entry)) ⌝ }
 {
     let last = n - 4;

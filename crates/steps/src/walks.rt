@@ -9,6 +9,7 @@ ghost use Rattle.bisection.specs.Theorems.Passing.{Passes};
 ghost use Rattle.steps.specs.Steps.{nameIn};
 ghost use Rattle.steps.specs.Descents.{WalksTo, CodeReady};
 ghost use Rattle.steps.specs.Climbs.{ClimbReady, Climbed};
+ghost use Rattle.steps.specs.Ascents.{PathReady, PathStands};
 use dimension::Dim;
 
 // Steps the name in the buffer, at depth 0, down the path.
@@ -54,4 +55,13 @@ pub fn walk_up(code: &[u8], dim: Dim, depth: usize, root: &mut [u8], path: &mut 
         let own = crate::own_of(code, d, boxes);
         path[t] = crate::unstep(root, 0, k - 1, own);
     }
+}
+
+// Writes the root and the path of a code that passes: its entries, with their steps taken back.
+pub fn write_path(code: &[u8], dim: Dim, depth: usize, root: &mut [u8], path: &mut [u8])
+    requires { ⌜ PathReady (now code) (axesOf dim) depth (now root) (now path) ⌝ }
+    ensures { λ r. ⌜ PathStands (now (code .entry)) (axesOf dim) depth (now (root .entry)) (now (path .entry)) (now (root .exit)) (now (path .exit)) ⌝ }
+{
+    common::copy(code, 2, dim.axes(), root, 0);
+    walk_up(code, dim, depth, root, path);
 }

@@ -11,7 +11,7 @@ use lib.ListN.{length, getD, length-append}
 use Rattle.dimension.specs.Sizes.{isDimension, greatestDepth}
 use Rattle.dimension.specs.Laws.{Dimension, dimension}
 use Rattle.bisection.specs.Roots.{Permutation, GoodRoot, GoodPath}
-use Rattle.bisection.specs.Codes.{Name, step, rootName, nameBelow, nameOf, bytes, codeOf, IsCodeOf, dimensionOf, depthOf, partsOf, childCode}
+use Rattle.bisection.specs.Codes.{Name, step, rootName, nameBelow, nameOf, bytes, codeOf, IsCodeOf, dimensionOf, depthOf, partsOf}
 use Rattle.bisection.specs.Refusals.{done, codeRefusal}
 use Rattle.bisection.specs.Theorems.Passing.{Passes, parentName, parent-step, step-passes}
 use Rattle.bisection.specs.Theorems.Paths.{pathTo, rootTo, Steps, root-passes, below-passes, path-below, root-below, length-path, steps-path, root-root, name-again, below-snoc}
@@ -122,6 +122,10 @@ module _ {code root path : List ℕ} (c : IsCodeOf code root path) where
 
 pub one-path : {code root path root' path' : List ℕ} → IsCodeOf code root path → IsCodeOf code root' path' → (root ≡ root') × (path ≡ path')
 one-path c c' = (sym (the-root c) ∙ the-root c', sym (the-path c) ∙ the-path c')
+
+-- the step rule on a code's bytes
+unfoldable pub childCode : ℕ → List ℕ → List ℕ
+childCode b code = bytes (dimensionOf code) (suc (depthOf code)) (step (dimensionOf code) (depthOf code) b (partsOf code))
 
 -- the child's code is the step of the code
 pub child-code : (root path : List ℕ) → GoodRoot root → (b : ℕ) → codeOf root (path ++ b ∷ []) ≡ childCode b (codeOf root path)

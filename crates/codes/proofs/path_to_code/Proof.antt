@@ -1,12 +1,7 @@
 -- `path_to_code` meets its contract: no dimension is refused, the rest is that of `path_in`.
-use mathlib.Core.Path.{_≡_, refl, sym, ap, _∙_, subst}
-use mathlib.Core.List.{List, _++_}
-use Prim.Native.Nat.{ℕ, suc, _+_, _-_, _%_, _≤_, _<_}
-use lib.ListN.{length, getD, take, drop, length-set}
-use native.Mathlib.Omega.{arith}
+use mathlib.Core.Path.{subst}
 use Rattle.dimension.specs.Known.{KnownIs}
-use Rattle.codes.specs.ChildAnswers.{refused-writes}
-use Rattle.codes.specs.PathAnswers.{path-1}
+use Rattle.codes.specs.PathAnswers.{path-dimension}
 use borrow.Author.Needs.{needs}
 use Rattle.codes.proofs.path_to_code.Statement.{statement}
 use Rattle.codes.proofs.path_to_code.Tie as tie
@@ -27,7 +22,7 @@ path-in-requires : tie.Need-path-in-requires
 path-in-requires c κs = let h = c .before .before .dim .given in subst (KnownIs _) (h .1) (c .before .before .before .before .of .ensures)
 
 returns : tie.Need-returns
-returns c = refused-writes _ 1 (path-1 (c .before .before .before .before .before .before .before .args .root .now) (c .before .before .before .before .before .before .before .args .path .now) (length (c .before .before .before .before .before .before .before .args .code .now)) (let h = c .before .enum-told .given in subst (KnownIs _) (h .1) (c .before .before .before .of .ensures))) (omega arith) (c .refused .ensures .0) (c .refused .ensures .1)
+returns c = let h = c .before .enum-told .given in path-dimension _ _ _ (subst (KnownIs _) (h .1) (c .before .before .before .of .ensures)) (c .refused .ensures)
 
 same-length : tie.Need-same-length
 same-length c = search needs

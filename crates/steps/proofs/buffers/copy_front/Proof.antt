@@ -3,7 +3,8 @@ use mathlib.Core.Path.{_≡_, refl, sym, ap, _∙_}
 use Prim.Native.Nat.{ℕ, suc, _+_, _-_, _≤_, _<_}
 use lib.ListN.{length, getD, take, drop, length-set}
 use native.Mathlib.Omega.{arith}
-use Rattle.dimension.specs.Sizes.{halvings}
+use Rattle.dimension.specs.Sizes.{mostAxes, halvings, longestOfAll}
+use Rattle.dimension.specs.Laws.{longest-is}
 use Rattle.entries.specs.Walks.{placeIn, place-no-later}
 use Rattle.steps.specs.Copying.{Fronted, fronted-none, fronted-next, fronted-last}
 use borrow.Author.Needs.{needs}
@@ -14,7 +15,7 @@ abbrev Inv-loop : tie.InvT-loop
 Inv-loop code n out₀ last i₀ out i = Fronted code out₀ last i out
 
 abbrev μ-loop : tie.MeasureT-loop
-μ-loop code n out₀ last i₀ out i = halvings + 8 - i
+μ-loop code n out₀ last i₀ out i = longestOfAll - i
 
 sub-last : tie.Need-sub-last Inv-loop μ-loop
 sub-last c = c .before .before .pre .0
@@ -34,8 +35,8 @@ add-i : tie.Need-add-i Inv-loop μ-loop
 add-i c = omega (arith, c .before .before .before .before .before .loop-test .taken)
 
 loop-less : tie.Need-loop-less Inv-loop μ-loop
-unfolding halvings
-loop-less c = omega (arith, c .before .before .before .before .before .loop-test .taken)
+unfolding mostAxes halvings
+loop-less c = omega (arith, longest-is, c .before .before .before .before .before .loop-test .taken)
 
 loop-again : tie.Need-loop-again Inv-loop μ-loop
 loop-again c = fronted-next (c .before .before .before .before .before .before .loop .inv) (c .before .before .before .before .place-in .result) (c .before .before .before .before .place-in .ensures) (c .before .before .copy-four .ensures)
@@ -47,8 +48,8 @@ same-length : tie.Need-same-length Inv-loop μ-loop
 same-length c = c .before .before .copy-four2 .ensures .size ∙ c .before .before .before .before .before .loop .inv .so-far .size
 
 returns : tie.Need-returns Inv-loop μ-loop
-unfolding halvings
-returns c = fronted-last (c .before .before .before .before .before .loop .inv) (c .before .before .before .before .before .before .before .before .args .n) (c .before .before .copy-four2 .ensures) (omega (arith, c .before .before .before .before .loop-test .left, c .before .before .before .before .before .before .before .before .pre .1)) (omega (arith, c .before .before .before .before .before .before .before .before .pre .0)) (c .before .before .before .before .before .before .before .before .pre .2) (c .before .before .before .before .before .before .before .before .pre .3)
+unfolding mostAxes halvings
+returns c = fronted-last (c .before .before .before .before .before .loop .inv) (c .before .before .before .before .before .before .before .before .args .n) (c .before .before .copy-four2 .ensures) (omega (arith, longest-is, c .before .before .before .before .loop-test .left, c .before .before .before .before .before .before .before .before .pre .1)) (omega (arith, c .before .before .before .before .before .before .before .before .pre .0)) (c .before .before .before .before .before .before .before .before .pre .2) (c .before .before .before .before .before .before .before .before .pre .3)
 
 pub copy-front-spec : {M : Type 1} → statement M
 copy-front-spec =

@@ -1,0 +1,20 @@
+-- `dimension_of` meets its contract: the first byte of a code that passes is a dimension.
+use native.Mathlib.Omega.{arith}
+use Rattle.bisection.specs.Codes.{dimensionOf}
+use Rattle.entries.specs.Passed.{checked, checked-two}
+use Rattle.entries.proofs.check.dimension_of.Statement.{statement}
+use Rattle.entries.proofs.check.dimension_of.Tie as tie
+
+shared-slice-read-checked : tie.Need-shared-slice-read-checked
+shared-slice-read-checked c = omega (arith, checked-two (c .before .before .args .code .now) (c .before .before .pre))
+
+checked-requires : tie.Need-checked-requires
+unfolding dimensionOf
+checked-requires c κs = checked (c .before .before .args .code .now) (c .before .before .pre) .good .dimension
+
+returns : tie.Need-returns
+unfolding dimensionOf
+returns c = c .checked .ensures
+
+pub dimension-of-spec : {M : Type 1} → statement M
+dimension-of-spec = tie.close (tie.spec shared-slice-read-checked checked-requires returns)
