@@ -11,8 +11,9 @@
  *    any non-null pointer will do, for example one to a single byte. No pointer is null.
  *  - A lent output overlaps no other argument. Inputs may overlap each other.
  *  - The answer's refusal is the first that applies, in the order named at the entry, or RMK_DONE.
- *  - A refusal changes no lent cell, and the answer's other numbers are zero. On success the cells past
- *    the answer keep their content.
+ *  - A refusal changes no lent cell, and the answer's other numbers are zero, with one exception: a
+ *    refusal found while reading a sheet gives the offset too. On success the cells past the answer
+ *    keep their content.
  *  - A coordinate is two bytes, low byte first.
  *
  * The order for a code, named once: RMK_REFUSED_LENGTH (under 2 bytes), DIMENSION, DEPTH, LENGTH,

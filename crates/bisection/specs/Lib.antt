@@ -1,4 +1,4 @@
--- Document 01 as definitions, to be read from the top; a reader must believe these.
+-- Document 01 as definitions, to be read from the top. A reader must believe Cells, Roots, Codes, Refusals and Facets; the rest is checked.
 -- The cube and the bisection: points, cells, children, the cell of a root and a path.
 pub mod Cells
 -- The roots, and all of them in dictionary order.

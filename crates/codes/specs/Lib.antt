@@ -1,4 +1,4 @@
--- The code layer.
+-- The code layer. A reader must believe Outcomes and Fronts; the rest is checked.
 -- What each entry answers: the contracts' relations, to be read beside document 01.
 pub mod Outcomes
 -- A code at the front of bytes, for those who read records; its laws stand below it.

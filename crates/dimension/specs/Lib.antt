@@ -1,4 +1,4 @@
--- The sizes that belong to a dimension.
+-- The sizes that belong to a dimension. A reader must believe Sizes; the rest is checked.
 -- The sizes, as definitions over any dimension d.
 pub mod Sizes
 -- Which numbers of axes are a dimension.

@@ -1,4 +1,4 @@
--- The listing of a sheet.
+-- The listing of a sheet. A reader must believe Texts; the rest is checked.
 -- What the program writes, byte by byte, and the listing's contract.
 pub mod Texts
 -- Two outcomes that the contract allows are equal.

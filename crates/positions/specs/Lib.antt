@@ -1,4 +1,4 @@
--- Cells on the line.
+-- Cells on the line. All of it is checked, none is believed: no entry answers a position.
 -- The number of a code's root, where its cell starts, how long its part is.
 pub mod Positions
 -- Dictionary order over any list, and the number of a root in it.

@@ -1,4 +1,4 @@
--- The sheet layer.
+-- The sheet layer. A reader must believe Forests and Sheets; the rest is checked.
 -- Binary trees and forests over the roots, and their leaves in tree order.
 pub mod Forests
 -- Records, good sheets, the next leaf, a record's own tests, and what the sheet check answers.
