@@ -5,5 +5,6 @@ pub mod Rows
 pub mod Worked
 -- Two outcomes that a contract allows are equal: one claim over all entries.
 pub mod Determined
--- How a row is shown.
+-- How a row is shown, and document 01's sheet.
 pub mod Shown
+pub mod TwoLeaves

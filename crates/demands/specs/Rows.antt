@@ -5,7 +5,6 @@ use mathlib.Core.Path.{_≡_}
 use mathlib.Core.List.{List, [], _∷_, _++_}
 use Prim.Native.Nat.{ℕ, _≤_}
 use lib.ListN.{length, drop}
-use Rattle.bisection.specs.Cells.{Cell, cellBytes}
 use Rattle.bisection.specs.Refusals.{done, refusedFace, codeRefusal}
 use Rattle.codes.specs.declared.Written.{Written}
 use Rattle.codes.specs.Outcomes.{PathToCode, Vertices, Child}
@@ -15,9 +14,10 @@ use Rattle.listing.specs.Texts.{Lists}
 
 pub data Row : Type 0 where
   path-to-code : (root path code : List ℕ) → Row
-  vertices : (code : List ℕ) (cell : Cell) → Row
+  -- the points as bytes, a coordinate in two, the low byte first
+  vertices : (code points : List ℕ) → Row
   code-check : (code : List ℕ) (refusal : ℕ) → Row
-  child-of : (code : List ℕ) (which : ℕ) (answer : List ℕ) → Row
+  child-at : (code : List ℕ) (which : ℕ) (answer : List ℕ) → Row
   cross : (code : List ℕ) (facet : ℕ) (answer : List ℕ) (place : ℕ) → Row
   -- refusal 8
   walled : (code : List ℕ) (facet : ℕ) → Row
@@ -25,14 +25,14 @@ pub data Row : Type 0 where
   listing : (sheet text : List ℕ) → Row
 
 -- the answer stands at the front of every buffer with room for it, and the other cells keep their content
-unfoldable pub Answers : (List ℕ → Written → List ℕ → Type 0) → List ℕ → Type 0
-Answers contract answer = (before : List ℕ) → length answer ≤ length before → contract before (record { refusal = done; length = length answer }) (answer ++ drop (length answer) before)
+unfoldable pub Answered : (List ℕ → Written → List ℕ → Type 0) → List ℕ → Type 0
+Answered contract answer = (before : List ℕ) → length answer ≤ length before → contract before (record { refusal = done; length = length answer }) (answer ++ drop (length answer) before)
 
 unfoldable pub Holds : Row → Type 0
-Holds (path-to-code root path code) = Answers (PathToCode root path) code
-Holds (vertices code cell) = Answers (Vertices code) (cellBytes cell)
+Holds (path-to-code root path code) = Answered (PathToCode root path) code
+Holds (vertices code points) = Answered (Vertices code) points
 Holds (code-check code refusal) = refusal ≡ codeRefusal code
-Holds (child-of code which answer) = Answers (Child code which) answer
+Holds (child-at code which answer) = Answered (Child code which) answer
 Holds (cross code facet answer place) = (before : List ℕ) → length answer ≤ length before
     → Crosses code facet before (record { refusal = done; place = place; length = length answer }) (answer ++ drop (length answer) before)
 Holds (walled code facet) = (before : List ℕ) → Crosses code facet before (record { refusal = refusedFace; place = 0; length = 0 }) before

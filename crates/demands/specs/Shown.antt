@@ -1,29 +1,29 @@
 -- How a row is shown: from conditions that are computed.
 use mathlib.Core.Path.{_≡_, refl, sym, ap, _∙_, subst}
-use mathlib.Core.Bool.{Bool, true, false}
+use mathlib.Core.Bool.{true, false}
 use mathlib.Core.List.{List, [], _∷_, _++_}
 use Prim.Native.Nat.{ℕ, suc, _≤_, _<_}
-use lib.Dec.{T, leb, ltb}
-use lib.ListN.{length, getD, drop}
-use borrow.Author.Tests.{le-leb, leb-true}
-use Rattle.dimension.specs.Sizes.{isDimension, greatestDepth, codeLength}
 use native.Mathlib.Omega.{arith}
-use Rattle.bisection.specs.Cells.{Cell, cellOf, cellBytes, cellLength}
-use Rattle.bisection.specs.Codes.{codeOf, dimensionOf, depthOf, childCode}
-use Rattle.bisection.specs.Refusals.{done, refusedShort, need, _then_, codeRefusal, isRoot, isPath}
-use Rattle.bisection.specs.Theorems.CodePaths.{rootOf, pathOf, code-path}
+use lib.Dec.{T, leb, ltb}
+use lib.ListN.{length, drop}
+use borrow.Author.Tests.{le-leb, leb-true}
+use Rattle.dimension.specs.Sizes.{isDimension, greatestDepth, codeLength, pointsLength}
+use Rattle.bisection.specs.Cells.{cellOf, cellBytes}
+use Rattle.bisection.specs.Codes.{codeOf, dimensionOf, depthOf}
+use Rattle.bisection.specs.Refusals.{done, codeRefusal, isRoot, isPath}
+use Rattle.bisection.specs.Theorems.Ladders.{first-is, all-hold, holds, past}
+use Rattle.bisection.specs.Theorems.CodePaths.{rootOf, pathOf, code-path, childCode}
 use Rattle.bisection.specs.Theorems.CodeCells.{code-cell}
 use Rattle.bisection.specs.Facets.{IsCell, Across}
 use Rattle.bisection.specs.Theorems.Neighbour.{isBlocked, tableCode, tablePlace, face-is-blocked, blocked-is-face, blocked-alone, across-unblocked}
 use Rattle.codes.specs.Outcomes.{pathRefusal, PathToCode, verticesRefusal, Vertices, childRefusal, Child}
-use Rattle.codes.specs.Heads.{first-done, last-holds}
-use Rattle.codes.specs.PathAnswers.{good-root, path-0, code-of-length}
-use Rattle.codes.specs.ChildAnswers.{done-writes, child-0, child-length}
+use Rattle.codes.specs.PathAnswers.{good-root, code-of-length}
+use Rattle.codes.specs.ChildAnswers.{child-of, child-length}
+use Rattle.codes.specs.Writing.{done-writes, done-gives}
 use Rattle.crossing.specs.Outcome.{Crosses, crossed, wall}
 use Rattle.sheets.specs.Sheets.{sheetMark, sampleWidth, GoodSheet, good}
-use Rattle.listing.specs.Texts.{sheetLimit, goodText, Listing}
-use Rattle.listing.specs.Texts.{good as good-listing}
-use Rattle.demands.specs.Rows.{Row, path-to-code, vertices, code-check, child-of, cross, walled, sheet-check, listing, Answers, Holds, Every}
+use Rattle.listing.specs.Texts.{Listing}
+use Rattle.demands.specs.Rows.{Row, path-to-code, vertices, code-check, child-at, cross, walled, sheet-check, listing, Answered, Holds, Every}
 
 -- a root and a path that are not refused, and their code
 pub record PathShown (root path code : List ℕ) : Type 0 where
@@ -33,11 +33,11 @@ pub record PathShown (root path code : List ℕ) : Type 0 where
   pub steps : isPath path ≡ true
   pub is : codeOf root path ≡ code
 
--- a code that passes, its bisection's cell, and room for as many bytes as the entry asks
-pub record CellShown (code : List ℕ) (cell : Cell) : Type 0 where
+-- a code that passes, the bytes of its bisection's cell, and room for as many as the entry asks
+pub record CellShown (code points : List ℕ) : Type 0 where
   pub passes : codeRefusal code ≡ done
-  pub is : cellOf (rootOf code) (pathOf code) ≡ cell
-  pub size : cellLength (dimensionOf code) ≡ length (cellBytes cell)
+  pub is : cellBytes (cellOf (rootOf code) (pathOf code)) ≡ points
+  pub size : pointsLength (dimensionOf code) ≡ length points
 
 -- a code that passes and is not deepest, and its child
 pub record ChildShown (code : List ℕ) (which : ℕ) (answer : List ℕ) : Type 0 where
@@ -59,54 +59,38 @@ pub record WallShown (code : List ℕ) (i : ℕ) : Type 0 where
   pub facet : leb i (dimensionOf code) ≡ true
   pub blocked : isBlocked code i ≡ true
 
--- a good sheet, small enough to be listed, and its text
-pub record SheetShown (sheet : List ℕ) (records : ℕ) : Type 0 where
-  pub is-good : GoodSheet sheetMark sampleWidth sheet records
-
-pub record ListingShown (sheet text : List ℕ) : Type 0 where
-  pub records : ℕ
-  pub is-good : GoodSheet sheetMark sampleWidth sheet records
-  pub small : leb (length sheet) sheetLimit ≡ true
-  pub is : goodText (is-good .dimension) (is-good .cells) ≡ text
-
 unfoldable pub Shown : Row → Type 0
 Shown (path-to-code root path code) = PathShown root path code
-Shown (vertices code cell) = CellShown code cell
+Shown (vertices code points) = CellShown code points
 Shown (code-check code refusal) = refusal ≡ codeRefusal code
-Shown (child-of code which answer) = ChildShown code which answer
+Shown (child-at code which answer) = ChildShown code which answer
 Shown (cross code facet answer place) = CrossShown code facet answer place
 Shown (walled code facet) = WallShown code facet
-Shown (sheet-check sheet records) = SheetShown sheet records
-Shown (listing sheet text) = ListingShown sheet text
+Shown (sheet-check sheet records) = GoodSheet sheetMark sampleWidth sheet records
+Shown (listing sheet text) = Listing sheet text
 
-path-row : {root path code : List ℕ} → PathShown root path code → Answers (PathToCode root path) code
-unfolding Answers
-path-row {root} {path} {code} a before room = done-writes (pathRefusal root path (length before)) (length code)
-    (path-0 root path (length before) (a .dimension) (leb-true (length path) (greatestDepth (length root)) (a .depth)) (a .good) (a .steps)
-    (subst (λ (n : ℕ). n ≤ length before) (sym (size ∙ ap length (a .is))) room))
+path-row : {root path code : List ℕ} → PathShown root path code → Answered (PathToCode root path) code
+unfolding Answered pathRefusal
+path-row {root} {path} {code} a before room = done-writes (codeOf root path)
+    (first-is (holds (a .dimension) (holds (a .depth) (holds (a .good) (holds (a .steps) (holds (le-leb (codeLength (length root) (length path)) (length before) fits) all-hold))))))
     (ap length (sym (a .is))) (ap (λ (c : List ℕ). c ++ drop (length code) before) (sym (a .is)))
   where
-    size : codeLength (length root) (length path) ≡ length (codeOf root path)
-    size = code-of-length root path (good-root root (a .dimension) (a .good))
+    fits : codeLength (length root) (length path) ≤ length before
+    fits = omega (arith, code-of-length root path (good-root root (a .dimension) (a .good)) ∙ ap length (a .is))
 
-cell-row : {code : List ℕ} {cell : Cell} → CellShown code cell → Answers (Vertices code) (cellBytes cell)
-unfolding Answers verticesRefusal
-cell-row {code} {cell} a before room = record {
-  answer = cellBytes cell;
-  writes = done-writes (verticesRefusal code (length before)) (length (cellBytes cell))
-      (first-done (codeRefusal code) (need (leb (cellLength (dimensionOf code)) (length before)) refusedShort) (a .passes)
-      ∙ last-holds (leb (cellLength (dimensionOf code)) (length before)) refusedShort
-      (le-leb (cellLength (dimensionOf code)) (length before) (subst (λ (n : ℕ). n ≤ length before) (sym (a .size)) room)))
-      refl refl;
-  vertices = λ q. record { root = rootOf code; path = pathOf code; code-of = code-path code (a .passes); is = ap cellBytes (sym (a .is)) };
-}
+cell-row : {code points : List ℕ} → CellShown code points → Answered (Vertices code) points
+unfolding Answered verticesRefusal
+cell-row {code} {points} a before room = done-gives points (first-is (past (a .passes) (holds (le-leb (pointsLength (dimensionOf code)) (length before) (omega (arith, a .size))) all-hold))) refl refl
+    (record { root = rootOf code; path = pathOf code; code-of = code-path code (a .passes); is = sym (a .is) })
 
-child-row : {code : List ℕ} {which : ℕ} {answer : List ℕ} → ChildShown code which answer → Answers (Child code which) answer
-unfolding Answers
-child-row {code} {which} {answer} a before room = done-writes (childRefusal code which (length before)) (length answer)
-    (child-0 code which (length before) (a .passes) (leb-true which 1 (a .step)) (leb-true (suc (depthOf code)) (greatestDepth (dimensionOf code)) (a .deeper))
-    (subst (λ (n : ℕ). n ≤ length before) (sym (child-length code which (a .passes) ∙ ap length (a .is))) room))
-    (ap length (sym (a .is))) (ap (λ (c : List ℕ). c ++ drop (length answer) before) (sym (a .is)))
+child-row : {code : List ℕ} {which : ℕ} {answer : List ℕ} → ChildShown code which answer → Answered (Child code which) answer
+unfolding Answered childRefusal
+child-row {code} {which} {answer} a before room = done-gives (childCode which code)
+    (first-is (past (a .passes) (holds (a .step) (holds (a .deeper) (holds (le-leb (codeLength (dimensionOf code) (suc (depthOf code))) (length before) fits) all-hold)))))
+    (ap length (sym (a .is))) (ap (λ (c : List ℕ). c ++ drop (length answer) before) (sym (a .is))) (child-of code which (a .passes))
+  where
+    fits : codeLength (dimensionOf code) (suc (depthOf code)) ≤ length before
+    fits = omega (arith, child-length code which (a .passes) ∙ ap length (a .is))
 
 cross-row : {code : List ℕ} {i : ℕ} {answer : List ℕ} {place : ℕ} → CrossShown code i answer place → Holds (cross code i answer place)
 unfolding Holds
@@ -142,20 +126,16 @@ wall-row {code} {i} a before = record {
     il : i ≤ dimensionOf code
     il = leb-true i (dimensionOf code) (a .facet)
 
-listing-row : {sheet text : List ℕ} → ListingShown sheet text → Holds (listing sheet text)
-unfolding Holds
-listing-row {sheet} {text} a before = record { text = text; listing = subst (Listing sheet) (a .is) (good-listing (leb-true (length sheet) sheetLimit (a .small)) (a .is-good)); length-is = refl; front = refl }
-
 row : (r : Row) → Shown r → Holds r
 unfolding Shown Holds
 row (path-to-code root path code) a = path-row a
-row (vertices code cell) a = cell-row a
+row (vertices code points) a = cell-row a
 row (code-check code refusal) a = a
-row (child-of code which answer) a = child-row a
+row (child-at code which answer) a = child-row a
 row (cross code facet answer place) a = cross-row a
 row (walled code facet) a = wall-row a
-row (sheet-check sheet records) a = good (a .is-good) refl
-row (listing sheet text) a = listing-row a
+row (sheet-check sheet records) a = good a refl
+row (listing sheet text) a = λ before. record { text = text; listing = a; length-is = refl; front = refl }
 
 unfoldable pub EveryShown : List Row → Type 0
 EveryShown [] = Unit {0}
