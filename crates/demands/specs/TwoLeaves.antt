@@ -32,7 +32,7 @@ abbrev pub oneLeaf : List ℕ
 oneLeaf = 0x43 ∷ 0x4C ∷ 0x02 ∷ 0x00 ∷ 0x01 ∷ 0x02 ∷ 0x0A ∷ 0x00 ∷ 0x14 ∷ 0x00 ∷ 0x32 ∷ 0x00 ∷ []
 
 -- the sheet's forest: each root is a leaf
-pub two-leaves : GoodSheet sheetMark sampleWidth twoLeaves 2
+unfoldable pub two-leaves : GoodSheet sheetMark sampleWidth twoLeaves 2
 unfolding codeOf bytes nameOf nameBelow roots arrangements joined picks axesFrom rootCells leaves isDimension
 two-leaves = record {
   dimension = 2;

@@ -67,13 +67,69 @@ unfolding EveryShown Shown table codeOf bytes nameOf nameBelow step stepped turn
     cellBytes pointsLength rootOf pathOf rootTo pathTo parentName lastStep unturned unstepped fewer move newAt exchanged negatedAt entriesBy flipped runsOut carried
     orthantsBy blockedBy nextOwn moveOf blocked acrossName newPlace digit spelled decimal hex numberLine leafLine leafLines goodText refusedText two-leaves
 worked = every table (
-    record { dimension = refl; depth = refl; good = refl; steps = refl; is = refl }, (record { passes = refl; is = refl; size = refl }, (
-    record { dimension = refl; depth = refl; good = refl; steps = refl; is = refl }, (record { passes = refl; is = refl; size = refl }, (
-    record { dimension = refl; depth = refl; good = refl; steps = refl; is = refl }, (record { passes = refl; is = refl; size = refl }, (
-    record { dimension = refl; depth = refl; good = refl; steps = refl; is = refl }, (record { passes = refl; is = refl; size = refl }, (
-    record { dimension = refl; depth = refl; good = refl; steps = refl; is = refl }, (
-    record { passes = refl; facet = refl; free = refl; is = refl; at = refl }, (record { passes = refl; facet = refl; blocked = refl }, (record { passes = refl; facet = refl; blocked = refl }, (
-    record { passes = refl; facet = refl; free = refl; is = refl; at = refl }, (record { passes = refl; facet = refl; free = refl; is = refl; at = refl }, (
-    record { passes = refl; facet = refl; free = refl; is = refl; at = refl }, (record { passes = refl; facet = refl; free = refl; is = refl; at = refl }, (record { passes = refl; facet = refl; blocked = refl }, (
-    refl, (refl, (refl, (record { passes = refl; step = refl; deeper = refl; is = refl }, (
-    two-leaves, (good-listing (omega arith) two-leaves, (one-leaf-listed, (too-large-listed, tt)))))))))))))))))))))))))
+  record { dimension = refl; depth = refl; good = refl; steps = refl; is = refl },
+  (
+    record { passes = refl; is = refl; size = refl },
+    (
+      record { dimension = refl; depth = refl; good = refl; steps = refl; is = refl },
+      (
+        record { passes = refl; is = refl; size = refl },
+        (
+          record { dimension = refl; depth = refl; good = refl; steps = refl; is = refl },
+          (
+            record { passes = refl; is = refl; size = refl },
+            (
+              record { dimension = refl; depth = refl; good = refl; steps = refl; is = refl },
+              (
+                record { passes = refl; is = refl; size = refl },
+                (
+                  record { dimension = refl; depth = refl; good = refl; steps = refl; is = refl },
+                  (
+                    record { passes = refl; facet = refl; free = refl; is = refl; at = refl },
+                    (
+                      record { passes = refl; facet = refl; blocked = refl },
+                      (
+                        record { passes = refl; facet = refl; blocked = refl },
+                        (
+                          record { passes = refl; facet = refl; free = refl; is = refl; at = refl },
+                          (
+                            record { passes = refl; facet = refl; free = refl; is = refl; at = refl },
+                            (
+                              record { passes = refl; facet = refl; free = refl; is = refl; at = refl },
+                              (
+                                record { passes = refl; facet = refl; free = refl; is = refl; at = refl },
+                                (
+                                  record { passes = refl; facet = refl; blocked = refl },
+                                  (
+                                    refl,
+                                    (
+                                      refl,
+                                      (
+                                        refl,
+                                        (
+                                          record { passes = refl; step = refl; deeper = refl; is = refl },
+                                          (
+                                            two-leaves,
+                                            (good-listing (omega arith) two-leaves, (one-leaf-listed, (too-large-listed, tt))),
+                                          ),
+                                        ),
+                                      ),
+                                    ),
+                                  ),
+                                ),
+                              ),
+                            ),
+                          ),
+                        ),
+                      ),
+                    ),
+                  ),
+                ),
+              ),
+            ),
+          ),
+        ),
+      ),
+    ),
+  ),
+)
