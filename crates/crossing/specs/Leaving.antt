@@ -1,7 +1,7 @@
 -- A crossing that leaves the box: facet d, and facet 0 at the start of a level. One entry changes its sign, the box
 -- moves against an entry, and the new vertex stands where the old one did.
 use mathlib.Core.Path.{_≡_, refl, sym, ap, _∙_, subst}
-use mathlib.Core.Bool.{Bool, false, not}
+use mathlib.Core.Bool.{Bool, true, false, not}
 use mathlib.Core.List.{List, [], _∷_, _++_, append-assoc}
 use Prim.Native.Nat.{ℕ, suc, _+_, _-_, _≤_, _<_}
 use native.Mathlib.Omega.{arith}
@@ -12,14 +12,18 @@ use lib.Seq.{slice, drop-length, set-append-left, take-at, drop-at}
 use borrow.Author.Tests.{eq-eqb, ne-eqb}
 use Rattle.dimension.specs.Sizes.{codeLength, longestOfAll, splitPlace}
 use Rattle.bisection.specs.Codes.{axis, minus, negated, high, Name, bytes, dimensionOf, depthOf, entriesOf, orthantsOf, partsOf}
-use Rattle.bisection.specs.Refusals.{done, codeRefusal}
+use Rattle.bisection.specs.Refusals.{done, refusedFace, refusedShort, codeRefusal}
 use Rattle.bisection.specs.Theorems.Entries.{axis-negated, minus-negated}
-use Rattle.bisection.specs.Theorems.Table.{farther, nearer, move, moveOf, newAt, newPlace, nextOwn, negatedAt, entriesBy, orthantsBy, blockedBy, blocked, acrossName, runsOut, carried}
+use Rattle.bisection.specs.Theorems.Table.{nearer, farther, move, moveOf, newAt, newPlace, nextOwn, negatedAt, entriesBy, orthantsBy, blockedBy, blocked, acrossName, runsOut, carried}
 use Rattle.bisection.specs.Theorems.Crossing.Rearranged.{negatedAt-length}
 use Rattle.bisection.specs.Theorems.Neighbour.{isBlocked, tableCode, tablePlace}
 use Rattle.entries.specs.Walks.{entry-at}
 use Rattle.entries.specs.Passed.{code-few, Checked, checked}
+use Rattle.steps.specs.Copying.{whole-front}
 use Rattle.moves.specs.Carrying.{carriedIn}
+use Rattle.crossing.specs.declared.Crossed.{Crossed}
+use Rattle.crossing.specs.Outcome.{Crosses}
+use Rattle.crossing.specs.Answers.{Bare, cross-face, cross-short, cross-done}
 
 -- the row: what the table says, told by the entry e against which the box moves and the place whose sign changes
 pub record Leaving (code : List ℕ) (d at e i : ℕ) : Type 0 where
@@ -57,21 +61,20 @@ module _ (code : List ℕ) (p : codeRefusal code ≡ done) where
   unfolding d es partsOf
   entry-high t h = rw (entry-of t h) (omega (arith, k .good .passes .signed .high t h, k .range .few))
 
-  pub leaving-entry : 2 + dimensionOf code ≤ length code
+  long : 2 + dimensionOf code ≤ length code
   unfolding codeLength
-  leaving-entry = omega (arith, k .size)
+  long = omega (arith, k .size)
 
   pub leaving-low : (t : ℕ) → t < dimensionOf code → 1 ≤ axis (getD code (2 + t) 0)
   unfolding d
   leaving-low t h = entry-low t h
 
-  some : 0 < d
-  unfolding d
+  some : 0 < dimensionOf code
   some = omega (arith, k .range .two)
 
-  pub leaving-far : (i e : ℕ) → i ≡ dimensionOf code → e ≡ getD code (2 + (dimensionOf code - 1)) 0 → Leaving code (dimensionOf code) (dimensionOf code - 1) e i
+  pub leaving-near : (i e : ℕ) → i ≡ dimensionOf code → e ≡ getD code (2 + (dimensionOf code - 1)) 0 → Leaving code (dimensionOf code) (dimensionOf code - 1) e i
   unfolding d es blocked acrossName newPlace moveOf partsOf
-  leaving-far i e q f = rw (f, entry-of (dimensionOf code - 1) (omega (arith, some))) (record {
+  leaving-near i e q f = rw (f, entry-of (dimensionOf code - 1) (omega (arith, some))) (record {
     passes = p;
     axes = refl;
     facet = omega arith;
@@ -84,12 +87,12 @@ module _ (code : List ℕ) (p : codeRefusal code ≡ done) where
     new = rw row (unfold newAt in sym q);
   })
     where
-      row : move (dimensionOf code) (splitPlace (dimensionOf code) (depthOf code)) i (nextOwn (splitPlace (dimensionOf code) (depthOf code)) (record { entries = entriesOf code; orthants = orthantsOf code })) ≡ farther
+      row : move (dimensionOf code) (splitPlace (dimensionOf code) (depthOf code)) i (nextOwn (splitPlace (dimensionOf code) (depthOf code)) (record { entries = entriesOf code; orthants = orthantsOf code })) ≡ nearer
       row = unfold move in rw (eq-eqb i (dimensionOf code) q) refl
 
-  pub leaving-near : (i e : ℕ) → i ≡ 0 → splitPlace (dimensionOf code) (depthOf code) ≡ dimensionOf code → e ≡ negated (getD code (2 + 0) 0) → Leaving code (dimensionOf code) 0 e i
+  pub leaving-far : (i e : ℕ) → i ≡ 0 → splitPlace (dimensionOf code) (depthOf code) ≡ dimensionOf code → e ≡ negated (getD code (2 + 0) 0) → Leaving code (dimensionOf code) 0 e i
   unfolding d es blocked acrossName newPlace moveOf partsOf
-  leaving-near i e q s f = rw (f, entry-of 0 some) (record {
+  leaving-far i e q s f = rw (f, entry-of 0 some) (record {
     passes = p;
     axes = refl;
     facet = omega arith;
@@ -117,24 +120,45 @@ module _ (code : List ℕ) (p : codeRefusal code ≡ done) where
       turns : minus (negated (getD (entriesOf code) 0 0)) ≡ not (minus (getD (entriesOf code) 0 0))
       turns = minus-negated (getD (entriesOf code) 0 0) small
 
-      row : move (dimensionOf code) (splitPlace (dimensionOf code) (depthOf code)) i (nextOwn (splitPlace (dimensionOf code) (depthOf code)) (record { entries = entriesOf code; orthants = orthantsOf code })) ≡ nearer
+      row : move (dimensionOf code) (splitPlace (dimensionOf code) (depthOf code)) i (nextOwn (splitPlace (dimensionOf code) (depthOf code)) (record { entries = entriesOf code; orthants = orthantsOf code })) ≡ farther
       row = unfold move in rw (ne-eqb i (dimensionOf code) (omega (arith, some)), eq-eqb i 0 q, eq-eqb (splitPlace (dimensionOf code) (depthOf code)) (dimensionOf code) s) refl
 
-  -- the same, as the code computes the numbers
-  pub leaving-last : (n i e : ℕ) → n ≡ dimensionOf code → i ≡ n → e ≡ getD code (1 + n) 0 → Leaving code n (n - 1) e i
-  unfolding d
-  leaving-last n i e q h f = subst (λ (x : ℕ). Leaving code x (x - 1) e i) (sym q) (leaving-far i e (h ∙ q) (f ∙ ap (λ (j : ℕ). getD code j 0) there))
+-- the same as the code has the code's refusal, its dimension and the facet
+module _ (code : List ℕ) {x a n : ℕ} (e : x ≡ codeRefusal code) (z : x ≡ done) (named : a ≡ dimensionOf code) (same : n ≡ a) where
+  p : codeRefusal code ≡ done
+  p = sym e ∙ z
+
+  axes : n ≡ dimensionOf code
+  axes = same ∙ named
+
+  pub facing-some : 1 ≤ n
+  facing-some = omega (arith, some code p, axes)
+
+  pub facing-last : 1 + n < length code
+  facing-last = omega (arith, long code p, axes)
+
+  pub facing-first : 2 < length code
+  facing-first = omega (arith, long code p, some code p)
+
+  pub facing-axis : 1 ≤ axis (getD code 2 0)
+  facing-axis = leaving-low code p 0 (omega (arith, some code p))
+
+  pub leaving-last : (i j v : ℕ) → j ≡ i → j ≡ n → v ≡ getD code (1 + n) 0 → Leaving code n (n - 1) v i
+  leaving-last i j v f h q = subst (λ (x : ℕ). Leaving code x (x - 1) v i) (sym axes) (leaving-near code p i v (sym f ∙ h ∙ axes) (q ∙ ap (λ (t : ℕ). getD code t 0) there))
     where
       there : 1 + n ≡ 2 + (dimensionOf code - 1)
-      there = omega (arith, some)
+      there = omega (arith, some code p, axes)
 
-  pub leaving-first : (n j i e : ℕ) → n ≡ dimensionOf code → j ≡ splitPlace (dimensionOf code) (depthOf code) → i ≡ 0 → j ≡ n → e ≡ negated (getD code 2 0) → Leaving code n 0 e i
-  leaving-first n j i e q s h t f = subst (λ (x : ℕ). Leaving code x 0 e i) (sym q) (leaving-near i e h (sym s ∙ t ∙ q) f)
+  pub leaving-first : (i j s v D : ℕ) → j ≡ i → j ≡ 0 → D ≡ depthOf code → s ≡ splitPlace a D → s ≡ n → v ≡ negated (getD code 2 0) → Leaving code n 0 v i
+  leaving-first i j s v D f h deep split t q = subst (λ (x : ℕ). Leaving code x 0 v i) (sym axes)
+      (leaving-far code p i v (sym f ∙ h) (sym (split ∙ rw (named, deep) refl) ∙ t ∙ axes) q)
 
 -- the carry through orthants that stand behind a head and before the rest
-carried-held : (up : Bool) (a : ℕ) (head os rest : List ℕ) (from n : ℕ) → length head ≡ from → length (head ++ os) ≡ n → carriedIn from n up a (head ++ (os ++ rest)) ≡ head ++ (carried up a os ++ rest)
+carried-held : (up : Bool) (a : ℕ) (head os rest : List ℕ) (from n : ℕ) → length head ≡ from → length (head ++ os) ≡ n
+    → carriedIn from n up a (head ++ (os ++ rest)) ≡ head ++ (carried up a os ++ rest)
 unfolding carriedIn
-carried-held up a head os rest from n e f = rw (take-at head (os ++ rest) from e) (ap (λ (l : List ℕ). head ++ (carried up a l ++ drop n (head ++ (os ++ rest)))) middle ∙ ap (λ (l : List ℕ). head ++ (carried up a os ++ l)) behind)
+carried-held up a head os rest from n e f = rw (take-at head (os ++ rest) from e)
+    (ap (λ (l : List ℕ). head ++ (carried up a l ++ drop n (head ++ (os ++ rest)))) middle ∙ ap (λ (l : List ℕ). head ++ (carried up a os ++ l)) behind)
   where
     joined : head ++ (os ++ rest) ≡ (head ++ os) ++ rest
     joined = sym (append-assoc head os rest)
@@ -165,7 +189,7 @@ module _ {code : List ℕ} {d at e i : ℕ} (r : Leaving code d at e i) where
   pub leaving-few : d ≤ 4
   leaving-few = omega (arith, k' .range .few, r .axes)
 
-  pub leaving-wall : (t : Bool) → t ≡ runsOut (minus e) (axis e) (drop (2 + d) code) → isBlocked code i ≡ t
+  leaving-wall : (t : Bool) → t ≡ runsOut (minus e) (axis e) (drop (2 + d) code) → isBlocked code i ≡ t
   unfolding orthantsOf
   leaving-wall t q = r .wall ∙ sym (q ∙ ap (λ (x : ℕ). runsOut (minus e) (axis e) (drop (2 + x) code)) (r .axes))
 
@@ -235,6 +259,21 @@ module _ {code : List ℕ} {d at e i : ℕ} (r : Leaving code d at e i) where
         whole : length (head ++ (partsOf code) .orthants) ≡ length code
         whole = simp length-append (omega (arith, ap length (k' .good .is), length-append ((partsOf code) .entries) ((partsOf code) .orthants), negatedAt-length at ((partsOf code) .entries)))
 
-    pub leaving-written : carriedIn (2 + d) (length code) (minus e) (axis e) (set (code ++ drop (length code) out) (2 + at) v) ≡ tableCode code i ++ drop (length code) out
+    -- the copied front is the code
+    pub leaving-written : {buf after : List ℕ} → buf ≡ take (length code) code ++ drop (length code) out
+        → after ≡ carriedIn (2 + d) (length code) (minus e) (axis e) (set buf (2 + at) v) → after ≡ tableCode code i ++ drop (length code) out
     unfolding rest
-    leaving-written = written
+    leaving-written q w = w ∙ rw (q ∙ whole-front code out) written
+
+  -- the ways out, as the code has what the carry says
+  module _ (before : List ℕ) {t : Bool} (q : t ≡ runsOut (minus e) (axis e) (drop (2 + d) code)) where
+    pub leaving-face : {s : Crossed} → t ≡ true → Bare refusedFace s → Crosses code i before s before
+    leaving-face w f = cross-face code before i (r .passes) leaving-facet (leaving-wall t q ∙ w) f
+
+    pub leaving-short : {s : Crossed} → t ≡ false → length before < length code → Bare refusedShort s → Crosses code i before s before
+    leaving-short w l f = cross-short code before i (r .passes) leaving-facet (leaving-wall t q ∙ w) l f
+
+    pub leaving-done : {buf after : List ℕ} {v : ℕ} → t ≡ false → length code ≤ length before → v ≡ negated (getD code (2 + at) 0)
+        → buf ≡ take (length code) code ++ drop (length code) before → after ≡ carriedIn (2 + d) (length code) (minus e) (axis e) (set buf (2 + at) v)
+        → Crosses code i before (record { refusal = done; place = i; length = length code }) after
+    leaving-done {v = v} w l f b g = cross-done code before i (r .passes) leaving-facet (leaving-wall t q ∙ w) l refl (sym (r .new)) refl (leaving-written before v f b g)

@@ -1,19 +1,20 @@
 -- A crossing that stays in the box: every other facet. The entries are rearranged, the orthants stay, and there is
 -- always a cell across.
 use mathlib.Core.Path.{_≡_, refl, sym, ap, _∙_, subst}
+use mathlib.Core.Logic.{_≢_}
 use mathlib.Core.Bool.{Bool, true, false, cond}
 use mathlib.Core.List.{List, _∷_, _++_, append-assoc}
 use Prim.Native.Nat.{ℕ, suc, _+_, _≤_, _<_}
 use native.Mathlib.Omega.{arith}
 use native.Mathlib.Decide.{decLt}
 use lib.Dec.{eqb}
-use lib.ListN.{length, getD, drop, length-append, List·getD-append}
+use lib.ListN.{length, getD, take, drop, length-append, List·getD-append}
 use lib.Seq.{take-at}
 use borrow.Author.Tests.{ne-eqb}
 use Rattle.dimension.specs.Sizes.{codeLength, longestOfAll, splitPlace}
 use Rattle.dimension.specs.Laws.{split-range}
 use Rattle.bisection.specs.Codes.{axis, minus, high, Name, bytes, dimensionOf, depthOf, entriesOf, orthantsOf, partsOf}
-use Rattle.bisection.specs.Refusals.{done, sameSign, ownMinus, codeRefusal}
+use Rattle.bisection.specs.Refusals.{done, refusedShort, sameSign, ownMinus, codeRefusal}
 use Rattle.bisection.specs.Theorems.Table.{swap, left, right, trade, moveOf, newPlace, nextOwn, entriesBy, orthantsBy, blockedBy, blocked, acrossName}
 use Rattle.bisection.specs.Theorems.Crossing.Moves.{view}
 use Rattle.bisection.specs.Theorems.Crossing.Sound.{Allowed, allowed}
@@ -21,8 +22,11 @@ use Rattle.bisection.specs.Theorems.Neighbour.{isBlocked, tableCode, tablePlace
 use Rattle.steps.specs.Buffers.{atPlace}
 use Rattle.entries.specs.Walks.{ownByte}
 use Rattle.entries.specs.Passed.{code-few, Checked, checked}
+use Rattle.steps.specs.Copying.{whole-front}
 use Rattle.moves.specs.Rearranging.{ownNext, Rearranges, within, within-is, Movable}
-use Rattle.crossing.specs.Answers.{entries-append, table-place}
+use Rattle.crossing.specs.declared.Crossed.{Crossed}
+use Rattle.crossing.specs.Outcome.{Crosses}
+use Rattle.crossing.specs.Answers.{Bare, cross-short, cross-done, entries-append, table-place}
 
 pub record Staying (code : List ℕ) (d k i : ℕ) : Type 0 where
   pub passes : codeRefusal code ≡ done
@@ -32,14 +36,24 @@ pub record Staying (code : List ℕ) (d k i : ℕ) : Type 0 where
   pub first : i ≡ 0 → k < d
 
 -- from the numbers that the code computes
-pub staying : (code : List ℕ) (d k i : ℕ) → codeRefusal code ≡ done → d ≡ dimensionOf code → k ≡ splitPlace (dimensionOf code) (depthOf code) → i ≤ d → (i ≡ d → ⊥) → (i ≡ 0 → k ≡ d → ⊥) → Staying code d k i
-staying code d k i p e f h n z = record { passes = p; axes = e; split = f; inside = omega arith; first = λ q. less q (z q) }
+pub staying : (code : List ℕ) {x a d D k i j : ℕ} → x ≡ codeRefusal code → x ≡ done → a ≡ dimensionOf code → d ≡ a → D ≡ depthOf code → k ≡ splitPlace a D → j ≡ i
+    → j ≤ d → j ≢ d → (j ≡ 0 → k ≢ d) → Staying code d k i
+staying code {x} {a} {d} {D} {k} {i} {j} e z named same deep split f h n w = record {
+  passes = p;
+  axes = same ∙ named;
+  split = place;
+  inside = omega arith;
+  first = λ q. less (w (f ∙ q));
+}
   where
-    less : i ≡ 0 → (k ≡ d → ⊥) → k < d
-    less q u = omega (arith, split-range (dimensionOf code) (depthOf code) (omega (arith, checked code p .range .two)))
+    p : codeRefusal code ≡ done
+    p = sym e ∙ z
 
-pub split-as : (k d d' D D' : ℕ) → k ≡ splitPlace d D → d ≡ d' → D ≡ D' → k ≡ splitPlace d' D'
-split-as k d d' D D' e f g = e ∙ rw (f, g) refl
+    place : k ≡ splitPlace (dimensionOf code) (depthOf code)
+    place = split ∙ rw (named, deep) refl
+
+    less : k ≢ d → k < d
+    less u = omega (arith, place, split-range (dimensionOf code) (depthOf code) (omega (arith, checked code p .range .two)) .1)
 
 -- the rows that stay in the box leave the orthants and are never blocked
 module _ (d k i : ℕ) (own : Bool) (m : Name) where
@@ -126,7 +140,8 @@ module _ {code : List ℕ} {d k i : ℕ} (r : Staying code d k i) where
 
     copy-is : code ++ drop (length code) out ≡ l
     unfolding l es os rest m dim
-    copy-is = ap (λ (x : List ℕ). x ++ drop (length code) out) (c .good .is) ∙ (unfold bytes in ap (λ (x : List ℕ). dimensionOf code ∷ depthOf code ∷ x) (append-assoc ((partsOf code) .entries) ((partsOf code) .orthants) (drop (length code) out)))
+    copy-is = ap (λ (x : List ℕ). x ++ drop (length code) out) (c .good .is)
+        ∙ (unfold bytes in ap (λ (x : List ℕ). dimensionOf code ∷ depthOf code ∷ x) (append-assoc ((partsOf code) .entries) ((partsOf code) .orthants) (drop (length code) out)))
 
     movable : Movable k i l
     unfolding l es dim m
@@ -140,12 +155,10 @@ module _ {code : List ℕ} {d k i : ℕ} (r : Staying code d k i) where
       first = λ e. omega (arith, r .first e, r .axes);
     }
 
-    pub staying-movable : Movable k i (code ++ drop (length code) out)
-    staying-movable = rw copy-is movable
-
     own-is : (own : ℕ) → own ≡ ownByte (drop (2 + d) code) → k < dim → ownNext k own l ≡ nextOwn k m
     unfolding nextOwn ownMinus l es m partsOf orthantsOf dim
-    own-is own e h = rw (e ∙ ap (λ (x : ℕ). ownByte (drop (2 + x) code)) (r .axes)) (ap (λ (x : ℕ). sameSign (minus x) (high (ownByte (drop (2 + dimensionOf code) code)) (axis x))) entry)
+    own-is own e h = rw (e ∙ ap (λ (x : ℕ). ownByte (drop (2 + x) code)) (r .axes))
+        (ap (λ (x : ℕ). sameSign (minus x) (high (ownByte (drop (2 + dimensionOf code) code)) (axis x))) entry)
       where
         two : 2 + k ≡ suc (suc k)
         two = omega arith
@@ -171,10 +184,26 @@ module _ {code : List ℕ} {d k i : ℕ} (r : Staying code d k i) where
         ∙ sym (append-assoc (entriesBy (dimensionOf code) k (within k i (nextOwn k (partsOf code))) ((partsOf code) .entries)) ((partsOf code) .orthants) rest))
         ∙ (rw (row, ← r .split, within-orthants (dimensionOf code) k i (nextOwn k (partsOf code)) (partsOf code)) refl)
 
-    pub staying-written : (own place : ℕ) (a : List ℕ) → own ≡ ownByte (drop (2 + d) code) → (p : List ℕ) → p ≡ code ++ drop (length code) out → Rearranges k (within k i (ownNext k own p)) p place a → a ≡ tableCode code i ++ drop (length code) out
-    unfolding rest
-    staying-written own place a e p q s = written a (s .entries dim ∙ rw (q, copy-is, same-row own e) refl)
+  -- the buffer as the code has it, with the facet and the box's own signs; then what the rearrangement leaves there
+  module _ (out : List ℕ) {buf : List ℕ} {j : ℕ} (q : buf ≡ take (length code) code ++ drop (length code) out) (f : j ≡ i) where
+    copied : buf ≡ l out
+    copied = q ∙ whole-front code out ∙ copy-is out
 
-    pub staying-place : (own place : ℕ) (a : List ℕ) → own ≡ ownByte (drop (2 + d) code) → (p : List ℕ) → p ≡ code ++ drop (length code) out → Rearranges k (within k i (ownNext k own p)) p place a → place ≡ tablePlace code i
-    unfolding newPlace dim m
-    staying-place own place a e p q s = s .new (dimensionOf code) ∙ rw (q, copy-is, same-row own e, row, ← r .split) refl
+    pub staying-movable : Movable k j buf
+    staying-movable = rw (copied, f) (movable out)
+
+    module _ {own : ℕ} (e : own ≡ ownByte (drop (2 + d) code)) {place : ℕ} {after : List ℕ} (s : Rearranges k (within k j (ownNext k own buf)) buf place after) where
+      there : place ≡ tablePlace code i
+      unfolding newPlace dim m
+      there = s .new (dimensionOf code) ∙ rw (copied, f, same-row out own e, row, ← r .split) refl
+
+      pub staying-byte : place < 256
+      staying-byte = omega (arith, there, staying-small)
+
+      pub staying-done : length code ≤ length out → Crosses code i out (record { refusal = done; place = place; length = length code }) after
+      unfolding rest
+      staying-done h = cross-done code out i (r .passes) staying-facet staying-free h refl there refl
+          (written out after (s .entries dim ∙ rw (copied, f, same-row out own e) refl))
+
+  pub staying-short : (out : List ℕ) {s : Crossed} → length out < length code → Bare refusedShort s → Crosses code i out s out
+  staying-short out h f = cross-short code out i (r .passes) staying-facet staying-free h f

@@ -10,7 +10,6 @@ use bisection::DONE;
 use bisection::REFUSED_FACE;
 use bisection::REFUSED_SHORT;
 use bisection::REFUSED_STEP;
-use dimension::Dim;
 use entries::check;
 use steps::buffers;
 
@@ -85,7 +84,7 @@ pub fn cross(code: &[u8], facet: u8, out: &mut [u8]) -> Crossed
     if refusal != DONE {
         return refused(refusal);
     }
-    let dim = Dim::checked(code[0]);
+    let dim = check::dimension_of(code);
     let d = dim.axes();
     let i = common::size(facet);
     if d < i {
@@ -94,7 +93,7 @@ pub fn cross(code: &[u8], facet: u8, out: &mut [u8]) -> Crossed
     if i == d {
         return cross_outside(code, d, d - 1, code[1 + d], facet, out);
     }
-    let k = dim.split_place(common::size(code[1]));
+    let k = dim.split_place(check::depth_of(code));
     if i == 0 {
         if k == d {
             return cross_outside(code, d, 0, entries::negate(code[2]), facet, out);

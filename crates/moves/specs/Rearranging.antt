@@ -12,7 +12,7 @@ use borrow.Author.Tests.{eq-eqb, ne-eqb}
 use Rattle.bisection.specs.Codes.{axis, minus, negated, turned, high}
 use Rattle.bisection.specs.Refusals.{sameSign}
 use Rattle.bisection.specs.Theorems.Entries.{Signed, unturned}
-use Rattle.bisection.specs.Theorems.Table.{Move, swap, nearer, left, right, trade, move, newAt, exchanged, negatedAt, entriesBy}
+use Rattle.bisection.specs.Theorems.Table.{Move, swap, farther, left, right, trade, move, newAt, exchanged, negatedAt, entriesBy}
 use Rattle.bisection.specs.Theorems.Crossing.Rearranged.{exchanged-first, exchanged-second, exchanged-other, exchanged-length, negatedAt-at, negatedAt-other, negatedAt-length}
 use Rattle.steps.specs.Buffers.{atPlace}
 use Rattle.entries.specs.Walks.{entry-at}
@@ -92,7 +92,7 @@ pub within-is : (d k i : ℕ) (own : Bool) → i < d → (i ≡ 0 → k < d) →
 unfolding move within
 within-is d k i own h f = rw (ne-eqb i d (omega arith)) (go (ℕ-discrete i 0))
   where
-    go : Dec (i ≡ 0) → cond (eqb i 0) (cond (eqb k d) nearer (cond own left trade)) (cond (eqb i k) (cond own (swap k) right) (swap i)) ≡ cond (eqb i 0) (cond own left trade) (cond (eqb i k) (cond own (swap k) right) (swap i))
+    go : Dec (i ≡ 0) → cond (eqb i 0) (cond (eqb k d) farther (cond own left trade)) (cond (eqb i k) (cond own (swap k) right) (swap i)) ≡ cond (eqb i 0) (cond own left trade) (cond (eqb i k) (cond own (swap k) right) (swap i))
     go (yes e) = rw (eq-eqb i 0 e, ne-eqb k d (omega (arith, f e))) refl
     go (no e) = rw (ne-eqb i 0 e) refl
 

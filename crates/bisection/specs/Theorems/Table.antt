@@ -17,21 +17,21 @@ use Rattle.bisection.specs.Theorems.Entries.{unturned}
 -- k + 1 change places, both negated
 pub data Move : Type 0 where
   swap : ℕ → Move
-  farther : Move
   nearer : Move
+  farther : Move
   left : Move
   right : Move
   trade : Move
 
 -- the row of facet i, where own says that entry k + 1 carries the box's own sign
 unfoldable pub move : ℕ → ℕ → ℕ → Bool → Move
-move d k i own = cond (eqb i d) farther (cond (eqb i 0) (cond (eqb k d) nearer (cond own left trade)) (cond (eqb i k) (cond own (swap k) right) (swap i)))
+move d k i own = cond (eqb i d) nearer (cond (eqb i 0) (cond (eqb k d) farther (cond own left trade)) (cond (eqb i k) (cond own (swap k) right) (swap i)))
 
 -- the place of the new vertex
 unfoldable pub newAt : ℕ → ℕ → Move → ℕ
 newAt d k (swap i) = i
-newAt d k farther = d
-newAt d k nearer = 0
+newAt d k nearer = d
+newAt d k farther = 0
 newAt d k left = k
 newAt d k right = 0
 newAt d k trade = 0
@@ -45,8 +45,8 @@ negatedAt t es = set es t (negated (getD es t 0))
 
 unfoldable pub entriesBy : ℕ → ℕ → Move → List ℕ → List ℕ
 entriesBy d k (swap i) es = exchanged (i - 1) i es
-entriesBy d k farther es = negatedAt (d - 1) es
-entriesBy d k nearer es = negatedAt 0 es
+entriesBy d k nearer es = negatedAt (d - 1) es
+entriesBy d k farther es = negatedAt 0 es
 entriesBy d k left es = turned (suc k) es
 entriesBy d k right es = unturned k es
 entriesBy d k trade es = negatedAt 0 (negatedAt k (exchanged 0 k es))
@@ -74,8 +74,8 @@ lastEntry d m = getD (m .entries) (d - 1) 0
 
 unfoldable pub orthantsBy : ℕ → Move → Name → List ℕ
 orthantsBy d (swap i) m = m .orthants
-orthantsBy d farther m = carried (minus (lastEntry d m)) (axis (lastEntry d m)) (m .orthants)
-orthantsBy d nearer m = carried (not (minus (firstEntry m))) (axis (firstEntry m)) (m .orthants)
+orthantsBy d nearer m = carried (minus (lastEntry d m)) (axis (lastEntry d m)) (m .orthants)
+orthantsBy d farther m = carried (not (minus (firstEntry m))) (axis (firstEntry m)) (m .orthants)
 orthantsBy d left m = m .orthants
 orthantsBy d right m = m .orthants
 orthantsBy d trade m = m .orthants
@@ -83,8 +83,8 @@ orthantsBy d trade m = m .orthants
 -- the carry runs out: no box of the cube lies there
 unfoldable pub blockedBy : ℕ → Move → Name → Bool
 blockedBy d (swap i) m = false
-blockedBy d farther m = runsOut (minus (lastEntry d m)) (axis (lastEntry d m)) (m .orthants)
-blockedBy d nearer m = runsOut (not (minus (firstEntry m))) (axis (firstEntry m)) (m .orthants)
+blockedBy d nearer m = runsOut (minus (lastEntry d m)) (axis (lastEntry d m)) (m .orthants)
+blockedBy d farther m = runsOut (not (minus (firstEntry m))) (axis (firstEntry m)) (m .orthants)
 blockedBy d left m = false
 blockedBy d right m = false
 blockedBy d trade m = false

@@ -12,18 +12,18 @@ use Rattle.bisection.specs.Theorems.Crossing.Sums.{at-axis}
 use Rattle.bisection.specs.Theorems.Crossing.Rows.{Sides, sides-turn, sides-odd}
 use Rattle.bisection.specs.Theorems.Crossing.Frames.{Frame, GoodFrame}
 use Rattle.bisection.specs.Theorems.Crossing.Axes.{Fits}
-use Rattle.bisection.specs.Theorems.Table.{Move, swap, farther, nearer, trade, left, right, move}
-use Rattle.bisection.specs.Theorems.Crossing.Moves.{Spot, apply, own, applies, Moved, view, is-far, is-near, is-left, is-trade, is-edge, is-right, is-swap}
+use Rattle.bisection.specs.Theorems.Table.{Move, swap, nearer, farther, trade, left, right, move}
+use Rattle.bisection.specs.Theorems.Crossing.Moves.{Spot, apply, own, applies, Moved, view, is-near, is-far, is-left, is-trade, is-edge, is-right, is-swap}
 use Rattle.bisection.specs.Theorems.Crossing.Level.{fits}
 use Rattle.bisection.specs.Theorems.Crossing.Walls.{Wall, bottom, Stuck, end, start}
-use Rattle.bisection.specs.Theorems.Crossing.Sound.{Allowed, a-swap, a-far, a-near, a-left, a-right, a-trade, allowed}
+use Rattle.bisection.specs.Theorems.Crossing.Sound.{Allowed, a-swap, a-near, a-far, a-left, a-right, a-trade, allowed}
 use Rattle.bisection.specs.Theorems.Crossing.Places.{cross, cross-perm}
 
 -- what the signs must be for the frame across to be good, and no low wall in the way
 pub data Clear (d k p x y : ℕ) : Move → Type 0 where
   c-swap : {i : ℕ} → (i ≡ k → p ≡ suc k → x % 2 ≡ 0) → Clear d k p x y (swap i)
-  c-far : (p ≡ d → x ≢ 0) → Clear d k p x y farther
-  c-near : (p ≡ 1 → y ≢ 0) → Clear d k p x y nearer
+  c-near : (p ≡ d → x ≢ 0) → Clear d k p x y nearer
+  c-far : (p ≡ 1 → y ≢ 0) → Clear d k p x y farther
   c-left : (p ≡ suc k → x % 2 ≡ 0) → Clear d k p x y left
   c-right : (p ≡ suc k → y % 2 ≡ 0) → Clear d k p x y right
   c-trade : (p ≡ suc k → y % 2 ≡ 0) → Clear d k p x y trade
@@ -58,17 +58,17 @@ module _ {d k p x y : ℕ} (o : Fits d k p x y) (k1 : 1 ≤ k) where
       go (no e) (yes n) (yes q) = simp applies (as-is i (λ h. f q (omega arith)))
       go (no e) (yes n) (no q) = simp applies (as-is i (λ h. o .even (omega arith)))
       go (no e) (no n) q = simp applies (as-is p (o .even))
-  axis-good a-far (c-far f) = go (ℕ-discrete p d)
+  axis-good a-near (c-near f) = go (ℕ-discrete p d)
     where
-      go : Dec (p ≡ d) → Fine k (apply d k farther p x y)
+      go : Dec (p ≡ d) → Fine k (apply d k nearer p x y)
       go (yes e) = simp applies (record {
         sides = record { down = omega (arith, f e, o .sides); up = omega (arith, f e, o .sides); apart = omega (arith, f e, o .sides) };
         even = o .even;
       })
       go (no e) = simp applies (as-is p (o .even))
-  axis-good (a-near q) (c-near f) = go (ℕ-discrete p 1)
+  axis-good (a-far q) (c-far f) = go (ℕ-discrete p 1)
     where
-      go : Dec (p ≡ 1) → Fine k (apply d k nearer p x y)
+      go : Dec (p ≡ 1) → Fine k (apply d k farther p x y)
       go (yes e) = simp applies (record {
         sides = record { down = omega (arith, f e, o .sides); up = omega (arith, f e, o .sides); apart = omega (arith, f e, o .sides) };
         even = λ h. even-back (o .sides) (o .even h);
@@ -112,8 +112,8 @@ module _ {d k : ℕ} {c : Frame} (g : GoodFrame d k c) (kd : k < d) where
 
 module _ {N d k i : ℕ} {c : Frame} (k1 : 1 ≤ k) (kd : k ≤ d) (il : i ≤ d) (g : GoodFrame d k c) where
   clear : {m : Move} → Moved d k i (own k c) m → ¬ Stuck N d c m → (a : ℕ) → a < d → Clear d k (c .at a) (c .near a) (c .far a) m
-  clear (is-far e) s a l = c-far (λ q z. s (end (subst (Wall N) (sym z ∙ ap (c .near) (at-axis (g .perm) a d l q)) bottom)))
-  clear (is-near e z q) s a l = c-near (λ q z. s (start (subst (Wall N) (sym z ∙ ap (c .far) (at-axis (g .perm) a 1 l q)) bottom)))
+  clear (is-near e) s a l = c-near (λ q z. s (end (subst (Wall N) (sym z ∙ ap (c .near) (at-axis (g .perm) a d l q)) bottom)))
+  clear (is-far e z q) s a l = c-far (λ q z. s (start (subst (Wall N) (sym z ∙ ap (c .far) (at-axis (g .perm) a 1 l q)) bottom)))
   clear (is-left e z q r) s a l = c-left (own-yes g (omega arith) r a l)
   clear (is-trade e z q r) s a l = c-trade (own-no g (omega arith) r a l)
   clear (is-edge e z q r) s a l = let less : k < d = omega arith in c-swap (λ h. own-yes g less r a l)

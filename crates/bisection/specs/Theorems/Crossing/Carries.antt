@@ -13,18 +13,18 @@ use borrow.Author.Tests.{eq-eqb, ne-eqb}
 use Rattle.bisection.specs.Codes.{axis, minus, Name}
 use Rattle.bisection.specs.Theorems.Entries.{Signed}
 use Rattle.bisection.specs.Theorems.Drawn.{entry}
-use Rattle.bisection.specs.Theorems.Table.{Move, swap, farther, nearer, left, right, trade, orthantsBy, blockedBy, runsOut, carried}
+use Rattle.bisection.specs.Theorems.Table.{Move, swap, nearer, farther, left, right, trade, orthantsBy, blockedBy, runsOut, carried}
 use Rattle.bisection.specs.Theorems.Crossing.Moves.{place, negates, sides, apply, Lands}
 use Rattle.bisection.specs.Theorems.Crossing.Walls.{Wall, bottom, top, Stuck, end, start}
-use Rattle.bisection.specs.Theorems.Crossing.Sound.{Allowed, a-swap, a-far, a-near, a-left, a-right, a-trade}
+use Rattle.bisection.specs.Theorems.Crossing.Sound.{Allowed, a-swap, a-near, a-far, a-left, a-right, a-trade}
 use Rattle.bisection.specs.Theorems.Crossing.Boxes.{boxAt, boxAt-fits, unit, Carried, out, on, carried-box, carried-other, carried-fits, carried-length}
 use Rattle.bisection.specs.Theorems.Crossing.Named.{frame, frame-near, frame-far, frame-axis}
 
 -- the box on the axis of place p: kept, or moved to the other side of near, or of far
 pub data BoxGoes (d p b : ℕ) (n : Bool) (b' : ℕ) : Move → Type 0 where
   b-swap : {i : ℕ} → b' ≡ b → BoxGoes d p b n b' (swap i)
-  b-far : (p ≡ d → unit b' (not n) ≡ unit b n) → (p ≢ d → b' ≡ b) → BoxGoes d p b n b' farther
-  b-near : (p ≡ 1 → unit b' (not (not n)) ≡ unit b (not n)) → (p ≢ 1 → b' ≡ b) → BoxGoes d p b n b' nearer
+  b-near : (p ≡ d → unit b' (not n) ≡ unit b n) → (p ≢ d → b' ≡ b) → BoxGoes d p b n b' nearer
+  b-far : (p ≡ 1 → unit b' (not (not n)) ≡ unit b (not n)) → (p ≢ 1 → b' ≡ b) → BoxGoes d p b n b' farther
   b-left : b' ≡ b → BoxGoes d p b n b' left
   b-right : b' ≡ b → BoxGoes d p b n b' right
   b-trade : b' ≡ b → BoxGoes d p b n b' trade
@@ -60,12 +60,12 @@ module _ (d k p b : ℕ) (n : Bool) (b' : ℕ) where
   lands-box (b-left e) = record { at = refl; near = kept e (eqb p 1) .0; far = kept e (eqb p 1) .1 }
   lands-box (b-right e) = record { at = refl; near = kept e (eqb p (suc k)) .0; far = kept e (eqb p (suc k)) .1 }
   lands-box (b-trade e) = record { at = refl; near = kept e (cond (eqb p 1) true (eqb p (suc k))) .0; far = kept e (cond (eqb p 1) true (eqb p (suc k))) .1 }
-  lands-box (b-far e f) = go (ℕ-discrete p d)
+  lands-box (b-near e f) = go (ℕ-discrete p d)
     where
       go : Dec (p ≡ d) → Lands (record { at = p; near = x; far = cond (eqb p d) (2 * x - y) y }) p (unit b' (cond (eqb p d) (not n) n)) (unit b' (not (cond (eqb p d) (not n) n)))
       go (yes q) = rw (eq-eqb p d q) (record { at = refl; near = e q; far = unit-twice b' n ∙ beyond b b' n (e q) })
       go (no q) = rw (ne-eqb p d q, f q) (record { at = refl; near = refl; far = refl })
-  lands-box (b-near e f) = go (ℕ-discrete p 1)
+  lands-box (b-far e f) = go (ℕ-discrete p 1)
     where
       go : Dec (p ≡ 1) → Lands (record { at = p; near = cond (eqb p 1) (2 * y - x) x; far = y }) p (unit b' (cond (eqb p 1) (not n) n)) (unit b' (not (cond (eqb p 1) (not n) n)))
       go (yes q) = rw (eq-eqb p 1 q) (record { at = refl; near = beyond b b' (not n) (e q) ∙ ap (λ (u : ℕ). 2 * y - u) (unit-twice b n); far = e q })
@@ -113,8 +113,8 @@ module _ (d k : ℕ) (m : Name) (g : Signed d (m .entries)) where
   pub box-goes : {mv : Move} → Allowed d k mv → blockedBy d mv m ≡ false → (q : ℕ) → q < d → BoxGoes d (suc q) (boxAt (axis (entry m q)) (m .orthants)) (minus (entry m q)) (boxAt (axis (entry m q)) (orthantsBy d mv m)) mv
   unfolding blockedBy orthantsBy
   box-goes (a-swap i1 id) e q l = b-swap refl
-  box-goes a-far e q l = b-far (λ h. carry-own (λ t. minus (entry m t)) (d - 1) q (omega arith) e) (λ h. carry-other (minus (entry m (d - 1))) (d - 1) (omega arith) q l (omega arith))
-  box-goes (a-near w) e q l = b-near (λ h. carry-own (λ t. not (minus (entry m t))) 0 q (omega arith) e) (λ h. carry-other (not (minus (entry m 0))) 0 (omega arith) q l (omega arith))
+  box-goes a-near e q l = b-near (λ h. carry-own (λ t. minus (entry m t)) (d - 1) q (omega arith) e) (λ h. carry-other (minus (entry m (d - 1))) (d - 1) (omega arith) q l (omega arith))
+  box-goes (a-far w) e q l = b-far (λ h. carry-own (λ t. not (minus (entry m t))) 0 q (omega arith) e) (λ h. carry-other (not (minus (entry m 0))) 0 (omega arith) q l (omega arith))
   box-goes (a-left w) e q l = b-left refl
   box-goes (a-right w) e q l = b-right refl
   box-goes (a-trade w) e q l = b-trade refl
@@ -135,8 +135,8 @@ module _ (d k : ℕ) (m : Name) (g : Signed d (m .entries)) where
 
   pub blocked-stuck : 0 < d → (mv : Move) → blockedBy d mv m ≡ true → Stuck (2 ^ length (m .orthants)) d (frame m) mv
   unfolding blockedBy
-  blocked-stuck d0 farther e = end (rw (last-near d0) (out-wall e (carried-box (minus (entry m (d - 1))) (axis (entry m (d - 1))) (m .orthants))))
-  blocked-stuck d0 nearer e = start (rw (first-far d0) (out-wall e (carried-box (not (minus (entry m 0))) (axis (entry m 0)) (m .orthants))))
+  blocked-stuck d0 nearer e = end (rw (last-near d0) (out-wall e (carried-box (minus (entry m (d - 1))) (axis (entry m (d - 1))) (m .orthants))))
+  blocked-stuck d0 farther e = start (rw (first-far d0) (out-wall e (carried-box (not (minus (entry m 0))) (axis (entry m 0)) (m .orthants))))
   blocked-stuck d0 (swap i) e = absurd (subst T (sym e) tt)
   blocked-stuck d0 left e = absurd (subst T (sym e) tt)
   blocked-stuck d0 right e = absurd (subst T (sym e) tt)
@@ -151,8 +151,8 @@ module _ (d k : ℕ) (m : Name) (g : Signed d (m .entries)) where
   pub orthants-count : (mv : Move) → length (orthantsBy d mv m) ≡ length (m .orthants)
   unfolding orthantsBy
   orthants-count (swap i) = refl
-  orthants-count farther = carried-length (minus (entry m (d - 1))) (axis (entry m (d - 1))) (m .orthants)
-  orthants-count nearer = carried-length (not (minus (entry m 0))) (axis (entry m 0)) (m .orthants)
+  orthants-count nearer = carried-length (minus (entry m (d - 1))) (axis (entry m (d - 1))) (m .orthants)
+  orthants-count farther = carried-length (not (minus (entry m 0))) (axis (entry m 0)) (m .orthants)
   orthants-count left = refl
   orthants-count right = refl
   orthants-count trade = refl
@@ -160,8 +160,8 @@ module _ (d k : ℕ) (m : Name) (g : Signed d (m .entries)) where
   pub orthants-fit : 0 < d → ((t : ℕ) → t < length (m .orthants) → getD (m .orthants) t 0 < 2 ^ d) → (mv : Move) (t : ℕ) → t < length (m .orthants) → getD (orthantsBy d mv m) t 0 < 2 ^ d
   unfolding orthantsBy
   orthants-fit d0 h (swap i) = h
-  orthants-fit d0 h farther = carried-fits (minus (entry m (d - 1))) (axis (entry m (d - 1))) d (g .low (d - 1) (omega arith)) (g .high (d - 1) (omega arith)) (m .orthants) h
-  orthants-fit d0 h nearer = carried-fits (not (minus (entry m 0))) (axis (entry m 0)) d (g .low 0 d0) (g .high 0 d0) (m .orthants) h
+  orthants-fit d0 h nearer = carried-fits (minus (entry m (d - 1))) (axis (entry m (d - 1))) d (g .low (d - 1) (omega arith)) (g .high (d - 1) (omega arith)) (m .orthants) h
+  orthants-fit d0 h farther = carried-fits (not (minus (entry m 0))) (axis (entry m 0)) d (g .low 0 d0) (g .high 0 d0) (m .orthants) h
   orthants-fit d0 h left = h
   orthants-fit d0 h right = h
   orthants-fit d0 h trade = h

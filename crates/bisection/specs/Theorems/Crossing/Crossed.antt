@@ -16,7 +16,7 @@ use Rattle.bisection.specs.Refusals.{ownMinus}
 use Rattle.bisection.specs.Theorems.Entries.{Signed}
 use Rattle.bisection.specs.Theorems.Passing.{Passes}
 use Rattle.bisection.specs.Theorems.Drawn.{entry}
-use Rattle.bisection.specs.Theorems.Table.{Move, swap, farther, nearer, right, move, nextOwn, moveOf, blocked, acrossName}
+use Rattle.bisection.specs.Theorems.Table.{Move, swap, nearer, farther, right, move, nextOwn, moveOf, blocked, acrossName}
 use Rattle.bisection.specs.Theorems.Crossing.Frames.{GoodFrame}
 use Rattle.bisection.specs.Theorems.Crossing.Moves.{apply, own, view}
 use Rattle.bisection.specs.Theorems.Crossing.Level.{LandsAt}
@@ -33,7 +33,7 @@ move-whole : (d k i : ℕ) (t u : Bool) → k ≡ d → move d k i t ≡ move d 
 unfolding move
 move-whole d k i t u e = rw (eq-eqb k d e) (go (ℕ-discrete i d))
   where
-    go : Dec (i ≡ d) → cond (eqb i d) farther (cond (eqb i 0) nearer (cond (eqb i k) (cond t (swap k) right) (swap i))) ≡ cond (eqb i d) farther (cond (eqb i 0) nearer (cond (eqb i k) (cond u (swap k) right) (swap i)))
+    go : Dec (i ≡ d) → cond (eqb i d) nearer (cond (eqb i 0) farther (cond (eqb i k) (cond t (swap k) right) (swap i))) ≡ cond (eqb i d) nearer (cond (eqb i 0) farther (cond (eqb i k) (cond u (swap k) right) (swap i)))
     go (yes q) = rw (eq-eqb i d q) refl
     go (no q) = let n : i ≢ k = λ r. q (r ∙ e) in rw (ne-eqb i k n) refl
 

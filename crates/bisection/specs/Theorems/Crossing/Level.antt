@@ -11,7 +11,7 @@ use Rattle.bisection.specs.Theorems.Crossing.Sums.{same-place, at-axis}
 use Rattle.bisection.specs.Theorems.Crossing.Rows.{sides-odd}
 use Rattle.bisection.specs.Theorems.Crossing.Frames.{Frame, GoodFrame, Meets}
 use Rattle.bisection.specs.Theorems.Crossing.Axes.{Same, Fits, Exchange, stay, up, down, near-kept, kept, kept-past, far-kept, swapped, whole-far, whole-at, whole-near, first}
-use Rattle.bisection.specs.Theorems.Table.{Move, swap, farther, nearer, trade}
+use Rattle.bisection.specs.Theorems.Table.{Move, swap, nearer, farther, trade}
 use Rattle.bisection.specs.Theorems.Crossing.Moves.{apply, own, Lands, applies}
 
 -- one axis of a good frame
@@ -146,8 +146,8 @@ module _ {d k : ℕ} {c c' : Frame} (g : GoodFrame d k c) (g' : GoodFrame d k c'
     farD a l n = far-kept (fits g a l) (fits g' a l) d1 (λ j h n. agree j h n a l) (d - 1) (omega arith) (omega arith)
         (omega (arith, g .perm .last a l)) (omega (arith, atD a l, g .perm .last a l))
 
-    pub ending : Outcome d k farther c c'
-    ending = by-one farther d rest (go (ℕ-discrete (c' .far a0) (c .far a0)))
+    pub ending : Outcome d k nearer c c'
+    ending = by-one nearer d rest (go (ℕ-discrete (c' .far a0) (c .far a0)))
       where
         a0 : ℕ
         a0 = c .axis d
@@ -158,10 +158,10 @@ module _ {d k : ℕ} {c c' : Frame} (g : GoodFrame d k c) (g' : GoodFrame d k c'
         p0 : c .at a0 ≡ d
         p0 = g .perm .back d d1 (omega arith)
 
-        rest : (a : ℕ) → a < d → c .at a ≢ d → SameAt c c' a × LandsAt d k farther c c' a
+        rest : (a : ℕ) → a < d → c .at a ≢ d → SameAt c c' a × LandsAt d k nearer c c' a
         rest a l n = (record { at = atD a l; near = nearD a l; far = farD a l n }, simp applies (record { at = atD a l; near = nearD a l; far = farD a l n }))
 
-        go : Dec (c' .far a0 ≡ c .far a0) → SameAt c c' a0 ⊎ LandsAt d k farther c c' a0
+        go : Dec (c' .far a0 ≡ c .far a0) → SameAt c c' a0 ⊎ LandsAt d k nearer c c' a0
         go (yes q) = inl (record { at = atD a0 l0; near = nearD a0 l0; far = q })
         go (no q) = inr (simp (applies, p0) (record { at = atD a0 l0 ∙ p0; near = nearD a0 l0; far = omega (arith, nearD a0 l0, g .sides a0 l0, g' .sides a0 l0) }))
 
@@ -211,8 +211,8 @@ module _ {d : ℕ} {c c' : Frame} (g : GoodFrame d d c) (g' : GoodFrame d d c') 
   near-whole : (a : ℕ) → a < d → c .at a ≢ 1 → c' .near a ≡ c .near a
   near-whole a l n = whole-near (fits g a l) (fits g' a l) (λ j h n. agree j h n a l) (omega (arith, g .perm .first a l))
 
-  pub opening : Outcome d d nearer c c'
-  opening = by-one g g' nearer 1 rest (go (ℕ-discrete (c' .near a0) (c .near a0)))
+  pub opening : Outcome d d farther c c'
+  opening = by-one g g' farther 1 rest (go (ℕ-discrete (c' .near a0) (c .near a0)))
     where
       a0 : ℕ
       a0 = c .axis 1
@@ -223,9 +223,9 @@ module _ {d : ℕ} {c c' : Frame} (g : GoodFrame d d c) (g' : GoodFrame d d c') 
       p0 : c .at a0 ≡ 1
       p0 = g .perm .back 1 (omega arith) d1
 
-      rest : (a : ℕ) → a < d → c .at a ≢ 1 → SameAt c c' a × LandsAt d d nearer c c' a
+      rest : (a : ℕ) → a < d → c .at a ≢ 1 → SameAt c c' a × LandsAt d d farther c c' a
       rest a l n = (record { at = at-of a l; near = near-whole a l n; far = far-whole a l }, simp applies (record { at = at-of a l; near = near-whole a l n; far = far-whole a l }))
 
-      go : Dec (c' .near a0 ≡ c .near a0) → SameAt c c' a0 ⊎ LandsAt d d nearer c c' a0
+      go : Dec (c' .near a0 ≡ c .near a0) → SameAt c c' a0 ⊎ LandsAt d d farther c c' a0
       go (yes q) = inl (record { at = at-of a0 l0; near = q; far = far-whole a0 l0 })
       go (no q) = inr (simp (applies, p0) (record { at = at-of a0 l0 ∙ p0; near = omega (arith, far-whole a0 l0, g .sides a0 l0, g' .sides a0 l0); far = far-whole a0 l0 }))

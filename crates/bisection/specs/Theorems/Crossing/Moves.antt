@@ -8,7 +8,7 @@ use native.Mathlib.Omega.{arith}
 use native.Mathlib.Decide.{ℕ-discrete}
 use lib.Dec.{leb, eqb}
 use borrow.Author.Tests.{le-leb, lt-leb, eq-eqb, ne-eqb}
-use Rattle.bisection.specs.Theorems.Table.{Move, swap, farther, nearer, left, right, trade, move}
+use Rattle.bisection.specs.Theorems.Table.{Move, swap, nearer, farther, left, right, trade, move}
 use Rattle.bisection.specs.Theorems.Crossing.Frames.{Frame}
 
 -- one axis of a frame: its place, near and far side
@@ -20,8 +20,8 @@ pub record Spot : Type 0 where
 -- where a row puts the entry at place p, places from 1
 unfoldable pub place : ℕ → ℕ → Move → ℕ → ℕ
 place d k (swap i) p = cond (eqb p i) (suc i) (cond (eqb p (suc i)) i p)
-place d k farther p = p
 place d k nearer p = p
+place d k farther p = p
 place d k left p = cond (eqb p 1) (suc k) (cond (leb p (suc k)) (p - 1) p)
 place d k right p = cond (eqb p (suc k)) 1 (cond (leb p k) (suc p) p)
 place d k trade p = cond (eqb p 1) (suc k) (cond (eqb p (suc k)) 1 p)
@@ -29,16 +29,16 @@ place d k trade p = cond (eqb p 1) (suc k) (cond (eqb p (suc k)) 1 p)
 -- whether it negates that entry
 unfoldable pub negates : ℕ → ℕ → Move → ℕ → Bool
 negates d k (swap i) p = false
-negates d k farther p = eqb p d
-negates d k nearer p = eqb p 1
+negates d k nearer p = eqb p d
+negates d k farther p = eqb p 1
 negates d k left p = eqb p 1
 negates d k right p = eqb p (suc k)
 negates d k trade p = cond (eqb p 1) true (eqb p (suc k))
 
 -- the near and far side of its axis: a negated entry's box stays, so that near and far change, or moves on
 unfoldable pub sides : ℕ → ℕ → Move → ℕ → ℕ → ℕ → ℕ × ℕ
-sides d k farther p x y = (x, cond (negates d k farther p) (2 * x - y) y)
-sides d k nearer p x y = (cond (negates d k nearer p) (2 * y - x) x, y)
+sides d k nearer p x y = (x, cond (negates d k nearer p) (2 * x - y) y)
+sides d k farther p x y = (cond (negates d k farther p) (2 * y - x) x, y)
 sides d k (swap i) p x y = (x, y)
 sides d k left p x y = (cond (negates d k left p) y x, cond (negates d k left p) x y)
 sides d k right p x y = (cond (negates d k right p) y x, cond (negates d k right p) x y)
@@ -76,13 +76,13 @@ module _ (d k p : ℕ) where
   unfolding place
   p-swap-other i e n = simp (ne-eqb)
 
-  pub p-farther : place d k farther p ≡ p
-  unfolding place
-  p-farther = refl
-
   pub p-nearer : place d k nearer p ≡ p
   unfolding place
   p-nearer = refl
+
+  pub p-farther : place d k farther p ≡ p
+  unfolding place
+  p-farther = refl
 
   pub p-left-first : p ≡ 1 → place d k left p ≡ suc k
   unfolding place
@@ -120,7 +120,7 @@ module _ (d k p : ℕ) where
   unfolding place
   p-trade-other n e = simp ne-eqb
 
-pub ruleset places = (p-swap-low, p-swap-high, p-swap-other, p-farther, p-nearer, p-left-first, p-left-in, p-left-past, p-right-last, p-right-in, p-right-past, p-trade-first, p-trade-last, p-trade-other)
+pub ruleset places = (p-swap-low, p-swap-high, p-swap-other, p-nearer, p-farther, p-left-first, p-left-in, p-left-past, p-right-last, p-right-in, p-right-past, p-trade-first, p-trade-last, p-trade-other)
 
 module _ (d k p x y : ℕ) where
   pub swap-low : (i : ℕ) → p ≡ i → apply d k (swap i) p x y ≡ record { at = suc i; near = x; far = y }
@@ -135,21 +135,21 @@ module _ (d k p x y : ℕ) where
   unfolding apply place sides
   swap-other i e n = simp (ne-eqb)
 
-  pub farther-at : p ≡ d → apply d k farther p x y ≡ record { at = p; near = x; far = 2 * x - y }
-  unfolding apply place sides negates
-  farther-at e = simp eq-eqb
-
-  pub farther-other : p ≢ d → apply d k farther p x y ≡ record { at = p; near = x; far = y }
-  unfolding apply place sides negates
-  farther-other e = simp ne-eqb
-
-  pub nearer-at : p ≡ 1 → apply d k nearer p x y ≡ record { at = p; near = 2 * y - x; far = y }
+  pub nearer-at : p ≡ d → apply d k nearer p x y ≡ record { at = p; near = x; far = 2 * x - y }
   unfolding apply place sides negates
   nearer-at e = simp eq-eqb
 
-  pub nearer-other : p ≢ 1 → apply d k nearer p x y ≡ record { at = p; near = x; far = y }
+  pub nearer-other : p ≢ d → apply d k nearer p x y ≡ record { at = p; near = x; far = y }
   unfolding apply place sides negates
   nearer-other e = simp ne-eqb
+
+  pub farther-at : p ≡ 1 → apply d k farther p x y ≡ record { at = p; near = 2 * y - x; far = y }
+  unfolding apply place sides negates
+  farther-at e = simp eq-eqb
+
+  pub farther-other : p ≢ 1 → apply d k farther p x y ≡ record { at = p; near = x; far = y }
+  unfolding apply place sides negates
+  farther-other e = simp ne-eqb
 
   pub left-first : p ≡ 1 → apply d k left p x y ≡ record { at = suc k; near = y; far = x }
   unfolding apply place sides negates
@@ -187,17 +187,17 @@ module _ (d k p x y : ℕ) where
   unfolding apply place sides negates
   trade-other n e = simp ne-eqb
 
-pub ruleset applies = (swap-low, swap-high, swap-other, farther-at, farther-other, nearer-at, nearer-other, left-first, left-in, left-past, right-last, right-in, right-past, trade-first, trade-last, trade-other)
+pub ruleset applies = (swap-low, swap-high, swap-other, nearer-at, nearer-other, farther-at, farther-other, left-first, left-in, left-past, right-last, right-in, right-past, trade-first, trade-last, trade-other)
 
 -- the rows of the table
 module _ (d k i : ℕ) where
-  move-far : (b : Bool) → i ≡ d → move d k i b ≡ farther
+  move-near : (b : Bool) → i ≡ d → move d k i b ≡ nearer
   unfolding move
-  move-far b e = simp eq-eqb
+  move-near b e = simp eq-eqb
 
-  move-near : (b : Bool) → i ≢ d → i ≡ 0 → k ≡ d → move d k i b ≡ nearer
+  move-far : (b : Bool) → i ≢ d → i ≡ 0 → k ≡ d → move d k i b ≡ farther
   unfolding move
-  move-near b n e q = simp (ne-eqb, eq-eqb)
+  move-far b n e q = simp (ne-eqb, eq-eqb)
 
   pub move-left : i ≢ d → i ≡ 0 → k ≢ d → move d k i true ≡ left
   unfolding move
@@ -221,8 +221,8 @@ module _ (d k i : ℕ) where
 
 -- which row a facet takes, with what is known there
 pub data Moved (d k i : ℕ) (b : Bool) : Move → Type 0 where
-  is-far : i ≡ d → Moved d k i b farther
-  is-near : i ≢ d → i ≡ 0 → k ≡ d → Moved d k i b nearer
+  is-near : i ≡ d → Moved d k i b nearer
+  is-far : i ≢ d → i ≡ 0 → k ≡ d → Moved d k i b farther
   is-left : i ≢ d → i ≡ 0 → k ≢ d → b ≡ true → Moved d k i b left
   is-trade : i ≢ d → i ≡ 0 → k ≢ d → b ≡ false → Moved d k i b trade
   is-edge : i ≢ d → i ≢ 0 → i ≡ k → b ≡ true → Moved d k i b (swap k)
@@ -233,8 +233,8 @@ pub view : (d k i : ℕ) (b : Bool) → Moved d k i b (move d k i b)
 view d k i b = go b (ℕ-discrete i d) (ℕ-discrete i 0) (ℕ-discrete k d) (ℕ-discrete i k)
   where
     go : (b : Bool) → Dec (i ≡ d) → Dec (i ≡ 0) → Dec (k ≡ d) → Dec (i ≡ k) → Moved d k i b (move d k i b)
-    go b (yes e) z q r = subst (Moved d k i b) (sym (move-far d k i b e)) (is-far e)
-    go b (no e) (yes z) (yes q) r = subst (Moved d k i b) (sym (move-near d k i b e z q)) (is-near e z q)
+    go b (yes e) z q r = subst (Moved d k i b) (sym (move-near d k i b e)) (is-near e)
+    go b (no e) (yes z) (yes q) r = subst (Moved d k i b) (sym (move-far d k i b e z q)) (is-far e z q)
     go true (no e) (yes z) (no q) r = subst (Moved d k i true) (sym (move-left d k i e z q)) (is-left e z q refl)
     go false (no e) (yes z) (no q) r = subst (Moved d k i false) (sym (move-trade d k i e z q)) (is-trade e z q refl)
     go true (no e) (no z) q (yes r) = subst (Moved d k i true) (sym (move-edge d k i e z r)) (is-edge e z r refl)

@@ -6,15 +6,15 @@ use native.Mathlib.Omega.{arith}
 use native.Mathlib.Decide.{decLe, ℕ-discrete}
 use Rattle.bisection.specs.Theorems.Crossing.Sums.{Perm}
 use Rattle.bisection.specs.Theorems.Crossing.Frames.{Frame, GoodFrame}
-use Rattle.bisection.specs.Theorems.Table.{Move, swap, farther, nearer, trade, left, right}
+use Rattle.bisection.specs.Theorems.Table.{Move, swap, nearer, farther, trade, left, right}
 use Rattle.bisection.specs.Theorems.Crossing.Moves.{place, places, at-place, apply}
-use Rattle.bisection.specs.Theorems.Crossing.Sound.{Allowed, a-swap, a-far, a-near, a-left, a-right, a-trade}
+use Rattle.bisection.specs.Theorems.Crossing.Sound.{Allowed, a-swap, a-near, a-far, a-left, a-right, a-trade}
 
 -- the way back
 unfoldable pub opp : Move → Move
 opp (swap i) = swap i
-opp farther = farther
 opp nearer = nearer
+opp farther = farther
 opp left = right
 opp right = left
 opp trade = trade
@@ -27,8 +27,8 @@ module _ {d k p : ℕ} (k1 : 1 ≤ k) (p1 : 1 ≤ p) (pd : p ≤ d) where
       go (yes e) f = simp places (omega arith)
       go (no e) (yes f) = simp places (omega arith)
       go (no e) (no f) = simp places (omega arith)
-  place-range a-far = simp places (p1, pd)
-  place-range (a-near q) = simp places (p1, pd)
+  place-range a-near = simp places (p1, pd)
+  place-range (a-far q) = simp places (p1, pd)
   place-range (a-left kd) = go (ℕ-discrete p 1) (decLe p (suc k))
     where
       go : Dec (p ≡ 1) → Dec (p ≤ suc k) → (1 ≤ place d k left p) × (place d k left p ≤ d)
@@ -56,8 +56,8 @@ module _ {d k p : ℕ} (k1 : 1 ≤ k) (p1 : 1 ≤ p) (pd : p ≤ d) where
       go (yes e) f = simp places (sym e)
       go (no e) (yes f) = simp places (sym f)
       go (no e) (no f) = simp places
-  place-back a-far = simp places
-  place-back (a-near q) = simp places
+  place-back a-near = simp places
+  place-back (a-far q) = simp places
   place-back (a-left kd) = go (ℕ-discrete p 1) (decLe p (suc k))
     where
       go : Dec (p ≡ 1) → Dec (p ≤ suc k) → place d k right (place d k left p) ≡ p
@@ -80,8 +80,8 @@ module _ {d k p : ℕ} (k1 : 1 ≤ k) (p1 : 1 ≤ p) (pd : p ≤ d) where
 pub allowed-opp : {d k : ℕ} {m : Move} → Allowed d k m → Allowed d k (opp m)
 unfolding opp
 allowed-opp (a-swap {i = i} i1 id) = a-swap {i = i} i1 id
-allowed-opp a-far = a-far
-allowed-opp (a-near q) = a-near q
+allowed-opp a-near = a-near
+allowed-opp (a-far q) = a-far q
 allowed-opp (a-left q) = a-right q
 allowed-opp (a-right q) = a-left q
 allowed-opp (a-trade q) = a-trade q
@@ -89,8 +89,8 @@ allowed-opp (a-trade q) = a-trade q
 pub opp-opp : (m : Move) → opp (opp m) ≡ m
 unfolding opp
 opp-opp (swap i) = refl
-opp-opp farther = refl
 opp-opp nearer = refl
+opp-opp farther = refl
 opp-opp left = refl
 opp-opp right = refl
 opp-opp trade = refl

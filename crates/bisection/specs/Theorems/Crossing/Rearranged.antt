@@ -12,8 +12,8 @@ use lib.Seq.{getD-set-same, getD-set-other}
 use borrow.Author.Tests.{eq-eqb, ne-eqb}
 use Rattle.bisection.specs.Codes.{axis, minus, negated}
 use Rattle.bisection.specs.Theorems.Entries.{Signed, axis-negated, minus-negated, turned-before, turned-at, turned-past, turned-length, unturned, unturned-moved, unturned-past, unturned-length, signed-along}
-use Rattle.bisection.specs.Theorems.Table.{Move, swap, farther, nearer, left, right, trade, exchanged, negatedAt, entriesBy}
-use Rattle.bisection.specs.Theorems.Crossing.Sound.{Allowed, a-swap, a-far, a-near, a-left, a-right, a-trade}
+use Rattle.bisection.specs.Theorems.Table.{Move, swap, nearer, farther, left, right, trade, exchanged, negatedAt, entriesBy}
+use Rattle.bisection.specs.Theorems.Crossing.Sound.{Allowed, a-swap, a-near, a-far, a-left, a-right, a-trade}
 use Rattle.bisection.specs.Theorems.Crossing.Moves.{place, places, negates}
 use Rattle.bisection.specs.Theorems.Crossing.Places.{opp, place-range, place-back, allowed-opp, opp-opp}
 
@@ -89,14 +89,14 @@ module _ {d k : ℕ} (es : List ℕ) (size : length es ≡ d) (k1 : 1 ≤ k) (q 
           record { to = i - 1; turn = false; place-is = simp places (omega arith); turn-is = refl; entry-is = exchanged-first (i - 1) i es lo hi apart ∙ at-place es (sym f) }
       go (no e) (no f) = let h : suc q ≢ suc i = omega arith in
           record { to = q; turn = false; place-is = simp places; turn-is = refl; entry-is = exchanged-other (i - 1) i es lo hi q (omega arith) f }
-  entry-goes a-far = go (ℕ-discrete (suc q) d)
+  entry-goes a-near = go (ℕ-discrete (suc q) d)
     where
-      go : Dec (suc q ≡ d) → EntryGoes d k farther es q
+      go : Dec (suc q ≡ d) → EntryGoes d k nearer es q
       go (yes e) = record { to = q; turn = true; place-is = simp places; turn-is = eq-eqb (suc q) d e; entry-is = negatedAt-at (d - 1) es q (omega arith) (in-list (omega arith)) }
       go (no e) = record { to = q; turn = false; place-is = simp places; turn-is = ne-eqb (suc q) d e; entry-is = negatedAt-other (d - 1) es q (omega arith) }
-  entry-goes (a-near w) = go (ℕ-discrete q 0)
+  entry-goes (a-far w) = go (ℕ-discrete q 0)
     where
-      go : Dec (q ≡ 0) → EntryGoes d k nearer es q
+      go : Dec (q ≡ 0) → EntryGoes d k farther es q
       go (yes e) = record { to = q; turn = true; place-is = simp places; turn-is = eq-eqb (suc q) 1 (omega arith); entry-is = negatedAt-at 0 es q e (in-list (omega arith)) }
       go (no e) = record { to = q; turn = false; place-is = simp places; turn-is = ne-eqb (suc q) 1 (omega arith); entry-is = negatedAt-other 0 es q e }
   entry-goes (a-left kd) = go (ℕ-discrete q 0) (decLe q k)
@@ -159,8 +159,8 @@ module _ {d k : ℕ} (es : List ℕ) (size : length es ≡ d) (k1 : 1 ≤ k) (q 
 pub entries-length : {d k : ℕ} (es : List ℕ) → length es ≡ d → {m : Move} → Allowed d k m → length (entriesBy d k m es) ≡ d
 unfolding entriesBy
 entries-length es size (a-swap {i = i} i1 id) = exchanged-length (i - 1) i es ∙ size
-entries-length {d} es size a-far = negatedAt-length (d - 1) es ∙ size
-entries-length es size (a-near q) = negatedAt-length 0 es ∙ size
+entries-length {d} es size a-near = negatedAt-length (d - 1) es ∙ size
+entries-length es size (a-far q) = negatedAt-length 0 es ∙ size
 entries-length {d} {k} es size (a-left kd) = turned-length k es (omega arith) ∙ size
 entries-length {d} {k} es size (a-right kd) = unturned-length k es (omega arith) ∙ size
 entries-length {d} {k} es size (a-trade kd) = negatedAt-length 0 (negatedAt k (exchanged 0 k es)) ∙ negatedAt-length k (exchanged 0 k es) ∙ exchanged-length 0 k es ∙ size

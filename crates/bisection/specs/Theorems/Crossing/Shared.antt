@@ -10,11 +10,11 @@ use Rattle.bisection.specs.Theorems.Crossing.Rows.{row}
 use Rattle.bisection.specs.Theorems.Crossing.Frames.{Frame, vert, GoodFrame, Meets}
 use Rattle.bisection.specs.Theorems.Crossing.Shift.{Among, HasFacet, Shift, shift, level, slid-left, slid-right}
 use Rattle.bisection.specs.Theorems.Crossing.Axes.{Fits, near-kept, kept-past, far-kept}
-use Rattle.bisection.specs.Theorems.Table.{Move, swap, farther, nearer, trade, left, right, newAt}
-use Rattle.bisection.specs.Theorems.Crossing.Moves.{apply, own, Lands, applies, Moved, is-far, is-near, is-left, is-trade, is-edge, is-right, is-swap}
+use Rattle.bisection.specs.Theorems.Table.{Move, swap, nearer, farther, trade, left, right, newAt}
+use Rattle.bisection.specs.Theorems.Crossing.Moves.{apply, own, Lands, applies, Moved, is-near, is-far, is-left, is-trade, is-edge, is-right, is-swap}
 use Rattle.bisection.specs.Theorems.Crossing.Level.{SameAt, LandsAt, fits}
 use Rattle.bisection.specs.Theorems.Crossing.Skips.{skip, skip-before, skip-past, skip-other, skip-in, Skipped, skipped}
-use Rattle.bisection.specs.Theorems.Crossing.Sound.{Allowed, a-swap, a-far, a-near, a-left, a-right, a-trade, allowed, Goes, g-swap, g-far, g-near, g-trade, g-left, g-left-on, g-right, g-right-on, axis-sound}
+use Rattle.bisection.specs.Theorems.Crossing.Sound.{Allowed, a-swap, a-near, a-far, a-left, a-right, a-trade, allowed, Goes, g-swap, g-near, g-far, g-trade, g-left, g-left-on, g-right, g-right-on, axis-sound}
 
 -- a cell is known by its vertices
 module _ {d k : ℕ} {c c' : Frame} (k1 : 1 ≤ k) (kd : k ≤ d) (g : GoodFrame d k c) (g' : GoodFrame d k c') (all : (j : ℕ) → j ≤ d → Among d k c j c') where
@@ -42,8 +42,8 @@ module _ {d k : ℕ} {c c' : Frame} (k1 : 1 ≤ k) (kd : k ≤ d) (g : GoodFrame
 module _ {d k i : ℕ} {b : Bool} (k1 : 1 ≤ k) (kd : k ≤ d) (t : ℕ) (l : t < d) where
   pub in-order : {m : Move} → Moved d k i b m → Goes d k m (skip i t) (skip (newAt d k m) t)
   unfolding newAt
-  in-order (is-far e) = rw e (g-far {j = skip d t} (skip-other d t))
-  in-order (is-near e z q) = rw z (g-near {j = skip 0 t} (skip-other 0 t))
+  in-order (is-near e) = rw e (g-near {j = skip d t} (skip-other d t))
+  in-order (is-far e z q) = rw z (g-far {j = skip 0 t} (skip-other 0 t))
   in-order (is-trade e z q r) = rw z (g-trade {j = skip 0 t} (skip-other 0 t))
   in-order (is-edge e z q r) = rw q (g-swap {j = skip k t} (skip-other k t))
   in-order (is-swap e z q) = g-swap {j = skip i t} (skip-other i t)
@@ -61,8 +61,8 @@ module _ {d k i : ℕ} {b : Bool} (k1 : 1 ≤ k) (kd : k ≤ d) (t : ℕ) (l : t
 pub new-within : {d k : ℕ} {m : Move} → k ≤ d → Allowed d k m → newAt d k m ≤ d
 unfolding newAt
 new-within kd (a-swap i1 id) = omega arith
-new-within kd a-far = omega arith
-new-within kd (a-near q) = omega arith
+new-within kd a-near = omega arith
+new-within kd (a-far q) = omega arith
 new-within kd (a-left q) = omega arith
 new-within kd (a-right q) = omega arith
 new-within kd (a-trade q) = omega arith
@@ -96,13 +96,13 @@ module _ {d k i : ℕ} {c c' : Frame} (k1 : 1 ≤ k) (kd : k ≤ d) (il : i ≤ 
 
       go : {m : Move} → Allowed d k m → ((a : ℕ) → a < d → LandsAt d k m c c' a) → ⊥
       go (a-swap {i = i} i1 id) h = let l : i ≤ d = omega arith in omega (arith, place i (suc i) (c .near (c .axis i)) (c .far (c .axis i)) i1 l (simp applies at (on (swap i) h i i1 l)))
-      go a-far h =
+      go a-near h =
           let h1 : 1 ≤ d = omega arith in let l : d ≤ d = omega arith in
-          let w : Lands (record { at = d; near = c .near (c .axis d); far = 2 * c .near (c .axis d) - c .far (c .axis d) }) (c' .at (c .axis d)) (c' .near (c .axis d)) (c' .far (c .axis d)) = simp applies at (on farther h d h1 l) in
+          let w : Lands (record { at = d; near = c .near (c .axis d); far = 2 * c .near (c .axis d) - c .far (c .axis d) }) (c' .at (c .axis d)) (c' .near (c .axis d)) (c' .far (c .axis d)) = simp applies at (on nearer h d h1 l) in
           omega (arith, w .far, s (c .axis d) (g .perm .axis d h1 l) .far, g .sides (c .axis d) (g .perm .axis d h1 l), g' .sides (c .axis d) (g .perm .axis d h1 l), w .near)
-      go (a-near q) h =
+      go (a-far q) h =
           let h1 : 1 ≤ 1 = omega arith in let l : 1 ≤ d = omega arith in
-          let w : Lands (record { at = 1; near = 2 * c .far (c .axis 1) - c .near (c .axis 1); far = c .far (c .axis 1) }) (c' .at (c .axis 1)) (c' .near (c .axis 1)) (c' .far (c .axis 1)) = simp applies at (on nearer h 1 h1 l) in
+          let w : Lands (record { at = 1; near = 2 * c .far (c .axis 1) - c .near (c .axis 1); far = c .far (c .axis 1) }) (c' .at (c .axis 1)) (c' .near (c .axis 1)) (c' .far (c .axis 1)) = simp applies at (on farther h 1 h1 l) in
           omega (arith, w .near, s (c .axis 1) (g .perm .axis 1 h1 l) .near, g .sides (c .axis 1) (g .perm .axis 1 h1 l), g' .sides (c .axis 1) (g .perm .axis 1 h1 l), w .far)
       go (a-left q) h = let h1 : 1 ≤ 1 = omega arith in let l : 1 ≤ d = omega arith in omega (arith, place 1 (suc k) (c .far (c .axis 1)) (c .near (c .axis 1)) h1 l (simp applies at (on left h 1 h1 l)))
       go (a-right q) h = let h1 : 1 ≤ suc k = omega arith in omega (arith, place (suc k) 1 (c .far (c .axis (suc k))) (c .near (c .axis (suc k))) h1 q (simp applies at (on right h (suc k) h1 q)))
@@ -127,8 +127,8 @@ pub record Ends (k i j : ℕ) : Type 0 where
 
 pub ends : {d k i : ℕ} {b : Bool} {m : Move} → Moved d k i b m → Ends k i (newAt d k m)
 unfolding newAt
-ends {d} {k} {i} (is-far e) = rw e (record { there = λ h. h; back = λ h. h; inner = λ n h. refl })
-ends (is-near e z q) = rw z (record { there = λ h. h; back = λ h. h; inner = λ n h. refl })
+ends {d} {k} {i} (is-near e) = rw e (record { there = λ h. h; back = λ h. h; inner = λ n h. refl })
+ends (is-far e z q) = rw z (record { there = λ h. h; back = λ h. h; inner = λ n h. refl })
 ends (is-trade e z q r) = rw z (record { there = λ h. h; back = λ h. h; inner = λ n h. refl })
 ends (is-edge e z q r) = rw q (record { there = λ h. h; back = λ h. h; inner = λ n h. refl })
 ends (is-swap e z q) = record { there = λ h. h; back = λ h. h; inner = λ n h. refl }

@@ -8,21 +8,21 @@ use native.Mathlib.Omega.{arith}
 use native.Mathlib.Decide.{decLt, decLe, ℕ-discrete}
 use Rattle.bisection.specs.Theorems.Crossing.Rows.{row, row-before, row-in, row-past}
 use Rattle.bisection.specs.Theorems.Crossing.Axes.{Fits}
-use Rattle.bisection.specs.Theorems.Table.{Move, swap, farther, nearer, trade, left, right}
-use Rattle.bisection.specs.Theorems.Crossing.Moves.{Spot, apply, applies, Moved, is-far, is-near, is-left, is-trade, is-edge, is-right, is-swap}
+use Rattle.bisection.specs.Theorems.Table.{Move, swap, nearer, farther, trade, left, right}
+use Rattle.bisection.specs.Theorems.Crossing.Moves.{Spot, apply, applies, Moved, is-near, is-far, is-left, is-trade, is-edge, is-right, is-swap}
 
 -- the rows that some facet takes
 pub data Allowed (d k : ℕ) : Move → Type 0 where
   a-swap : {i : ℕ} → 1 ≤ i → i < d → Allowed d k (swap i)
-  a-far : Allowed d k farther
-  a-near : k ≡ d → Allowed d k nearer
+  a-near : Allowed d k nearer
+  a-far : k ≡ d → Allowed d k farther
   a-left : k < d → Allowed d k left
   a-right : k < d → Allowed d k right
   a-trade : k < d → Allowed d k trade
 
 pub allowed : {d k i : ℕ} {b : Bool} {m : Move} → 1 ≤ k → k ≤ d → i ≤ d → Moved d k i b m → Allowed d k m
-allowed k1 kd il (is-far e) = a-far
-allowed k1 kd il (is-near e z q) = a-near q
+allowed k1 kd il (is-near e) = a-near
+allowed k1 kd il (is-far e z q) = a-far q
 allowed k1 kd il (is-left e z q r) = a-left (omega arith)
 allowed k1 kd il (is-trade e z q r) = a-trade (omega arith)
 allowed {k = k} k1 kd il (is-edge e z q r) = a-swap {i = k} k1 (omega arith)
@@ -32,8 +32,8 @@ allowed {i = i} k1 kd il (is-swap e z q) = a-swap {i = i} (omega arith) (omega a
 -- vertex j of the cell is vertex j' of the cell across
 pub data Goes (d k : ℕ) : Move → ℕ → ℕ → Type 0 where
   g-swap : {i j : ℕ} → j ≢ i → Goes d k (swap i) j j
-  g-far : {j : ℕ} → j ≢ d → Goes d k farther j j
-  g-near : {j : ℕ} → j ≢ 0 → Goes d k nearer j j
+  g-near : {j : ℕ} → j ≢ d → Goes d k nearer j j
+  g-far : {j : ℕ} → j ≢ 0 → Goes d k farther j j
   g-trade : {j : ℕ} → j ≢ 0 → Goes d k trade j j
   g-left : {j : ℕ} → j < k → Goes d k left (suc j) j
   g-left-on : {j : ℕ} → k < j → Goes d k left j j
@@ -68,14 +68,14 @@ module _ {d k p x y : ℕ} (o : Fits d k p x y) (k1 : 1 ≤ k) where
       go (yes e) f = simp applies (row-move k x y p (suc i) j j (omega arith) (omega arith) (omega arith) (omega arith))
       go (no e) (yes f) = simp applies (row-move k x y p i j j (omega arith) (omega arith) (omega arith) (omega arith))
       go (no e) (no f) = simp applies
-  axis-sound a-far (g-far {j = j} n) l = go (ℕ-discrete p d)
+  axis-sound a-near (g-near {j = j} n) l = go (ℕ-discrete p d)
     where
-      go : Dec (p ≡ d) → row k p x y j ≡ RowAt k (apply d k farther p x y) j
+      go : Dec (p ≡ d) → row k p x y j ≡ RowAt k (apply d k nearer p x y) j
       go (yes e) = simp applies (row-before k p x y j (omega arith) ∙ sym (row-before k p x (2 * x - y) j (omega arith)))
       go (no e) = simp applies
-  axis-sound (a-near q) (g-near {j = j} n) l = go (ℕ-discrete p 1)
+  axis-sound (a-far q) (g-far {j = j} n) l = go (ℕ-discrete p 1)
     where
-      go : Dec (p ≡ 1) → row k p x y j ≡ RowAt k (apply d k nearer p x y) j
+      go : Dec (p ≡ 1) → row k p x y j ≡ RowAt k (apply d k farther p x y) j
       go (yes e) = simp applies (row-in k p x y j (omega arith) (omega arith) ∙ sym (row-in k p (2 * y - x) y j (omega arith) (omega arith)))
       go (no e) = simp applies
   axis-sound (a-trade kd) (g-trade {j = j} n) l = go (ℕ-discrete p 1) (ℕ-discrete p (suc k))

@@ -11,7 +11,7 @@ use Rattle.dimension.specs.Laws.{split-range}
 use Rattle.bisection.specs.Codes.{axis, minus, high, Name}
 use Rattle.bisection.specs.Refusals.{ownMinus, sameSign}
 use Rattle.bisection.specs.Theorems.Passing.{Passes}
-use Rattle.bisection.specs.Theorems.Table.{nearer, flipped, runsOut, carried, firstEntry, orthantsBy, blockedBy}
+use Rattle.bisection.specs.Theorems.Table.{farther, flipped, runsOut, carried, firstEntry, orthantsBy, blockedBy}
 use Rattle.bisection.specs.Theorems.Crossing.Boxes.{less, own-cons}
 
 and-false : (t : Bool) → (t && false) ≡ false
@@ -53,10 +53,10 @@ module _ (d D : ℕ) (d0 : 0 < d) (m : Name) (p : Passes d D m) where
   own-first : minus (firstEntry m) ≡ ownMinus (m .orthants) (axis (firstEntry m))
   own-first = p .own .sign 0 (split-range d D d0 .0)
 
-  pub first-orthants : orthantsBy d nearer m ≡ lastFlipped (axis (firstEntry m)) (m .orthants)
+  pub first-orthants : orthantsBy d farther m ≡ lastFlipped (axis (firstEntry m)) (m .orthants)
   unfolding orthantsBy
   first-orthants = ap (λ (t : Bool). carried (not t) (axis (firstEntry m)) (m .orthants)) own-first ∙ carried-own (axis (firstEntry m)) (m .orthants)
 
-  pub first-blocked : blockedBy d nearer m ≡ eqb (length (m .orthants)) 0
+  pub first-blocked : blockedBy d farther m ≡ eqb (length (m .orthants)) 0
   unfolding blockedBy
   first-blocked = ap (λ (t : Bool). runsOut (not t) (axis (firstEntry m)) (m .orthants)) own-first ∙ runsOut-own (axis (firstEntry m)) (m .orthants)

@@ -6,14 +6,14 @@ use native.Mathlib.Omega.{arith}
 use lib.Dec.{T}
 use Rattle.bisection.specs.Theorems.Crossing.Frames.{Frame, GoodFrame, Meets}
 use Rattle.bisection.specs.Theorems.Crossing.Shift.{HasFacet, Shift, level, slid-left, slid-right, shift}
-use Rattle.bisection.specs.Theorems.Table.{Move, swap, nearer, trade, left, right, move}
-use Rattle.bisection.specs.Theorems.Crossing.Moves.{own, move-left, move-right, Moved, view, is-far, is-near, is-left, is-trade, is-edge, is-right, is-swap}
+use Rattle.bisection.specs.Theorems.Table.{Move, swap, farther, trade, left, right, move}
+use Rattle.bisection.specs.Theorems.Crossing.Moves.{own, move-left, move-right, Moved, view, is-near, is-far, is-left, is-trade, is-edge, is-right, is-swap}
 use Rattle.bisection.specs.Theorems.Crossing.Level.{Outcome, same, crossed, inside, ending, starting, opening, swap-own, trade-own}
 use Rattle.bisection.specs.Theorems.Crossing.Turning.{not-whole, left-own, lefts, right-own, rights}
 
 -- k = d, put in place of d
-opening-at : {d k : ℕ} {c c' : Frame} → k ≡ d → 1 ≤ d → GoodFrame d k c → GoodFrame d k c' → ((j : ℕ) → j ≤ d → j ≢ 0 → Meets d k c j c' j) → Outcome d k nearer c c'
-opening-at {d} {k} {c} {c'} q d1 = subst (λ (m : ℕ). GoodFrame d m c → GoodFrame d m c' → ((j : ℕ) → j ≤ d → j ≢ 0 → Meets d m c j c' j) → Outcome d m nearer c c') (sym q) (λ g g' w. opening g g' d1 w)
+opening-at : {d k : ℕ} {c c' : Frame} → k ≡ d → 1 ≤ d → GoodFrame d k c → GoodFrame d k c' → ((j : ℕ) → j ≤ d → j ≢ 0 → Meets d k c j c' j) → Outcome d k farther c c'
+opening-at {d} {k} {c} {c'} q d1 = subst (λ (m : ℕ). GoodFrame d m c → GoodFrame d m c' → ((j : ℕ) → j ≤ d → j ≢ 0 → Meets d m c j c' j) → Outcome d m farther c c') (sym q) (λ g g' w. opening g g' d1 w)
 
 -- the theorem
 module _ {d k i : ℕ} {c c' : Frame} (k1 : 1 ≤ k) (kd : k ≤ d) (il : i ≤ d) (g : GoodFrame d k c) (g' : GoodFrame d k c') (sh : HasFacet d k i c c') where
@@ -22,8 +22,8 @@ module _ {d k i : ℕ} {c c' : Frame} (k1 : 1 ≤ k) (kd : k ≤ d) (il : i ≤ 
     where
       -- the same places: the row is the one of the view, or the frames are the same
       flat : ((j : ℕ) → j ≤ d → j ≢ i → Meets d k c j c' j) → {m : Move} → Moved d k i (own k c) m → Outcome d k m c c'
-      flat w (is-far e) = ending g g' (omega arith) (λ j l n. w j l (λ u. n (u ∙ e)))
-      flat w (is-near e z q) = opening-at q (omega arith) g g' (λ j l n. w j l (λ u. n (u ∙ z)))
+      flat w (is-near e) = ending g g' (omega arith) (λ j l n. w j l (λ u. n (u ∙ e)))
+      flat w (is-far e z q) = opening-at q (omega arith) g g' (λ j l n. w j l (λ u. n (u ∙ z)))
       flat w (is-trade e z q r) = starting g g' k1 (omega arith) (λ j l n. w j l (λ u. n (u ∙ z)))
       flat w (is-left e z q r) = pick (starting g g' k1 (omega arith) (λ j l n. w j l (λ u. n (u ∙ z))))
         where

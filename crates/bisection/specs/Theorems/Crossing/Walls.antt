@@ -9,8 +9,8 @@ use Rattle.bisection.specs.Theorems.Crossing.Sums.{at-axis}
 use Rattle.bisection.specs.Theorems.Crossing.Rows.{row-before, row-in, row-past, row-after, Sides, sides-turn, sides-odd}
 use Rattle.bisection.specs.Theorems.Crossing.Frames.{Frame, vert, GoodFrame}
 use Rattle.bisection.specs.Theorems.Crossing.Shift.{HasFacet}
-use Rattle.bisection.specs.Theorems.Table.{Move, farther, nearer, move}
-use Rattle.bisection.specs.Theorems.Crossing.Moves.{own, Lands, applies, Moved, view, is-far, is-near, is-left, is-trade, is-edge, is-right, is-swap}
+use Rattle.bisection.specs.Theorems.Table.{Move, nearer, farther, move}
+use Rattle.bisection.specs.Theorems.Crossing.Moves.{own, Lands, applies, Moved, view, is-near, is-far, is-left, is-trade, is-edge, is-right, is-swap}
 use Rattle.bisection.specs.Theorems.Crossing.Level.{Outcome, same, crossed, SameAt, LandsAt}
 use Rattle.bisection.specs.Theorems.Crossing.Unique.{unique}
 
@@ -26,8 +26,8 @@ pub data Wall (N : ℕ) : ℕ → Type 0 where
 
 -- the rows that move the box, with a wall where they lead
 pub data Stuck (N d : ℕ) (c : Frame) : Move → Type 0 where
-  end : Wall N (c .near (c .axis d)) → Stuck N d c farther
-  start : Wall N (c .far (c .axis 1)) → Stuck N d c nearer
+  end : Wall N (c .near (c .axis d)) → Stuck N d c nearer
+  start : Wall N (c .far (c .axis 1)) → Stuck N d c farther
 
 -- some axis has the same coordinate, a wall's, at all vertices of the facet
 pub record OnWall (N d k i : ℕ) (c : Frame) : Type 0 where
@@ -84,14 +84,14 @@ module _ {N d k i : ℕ} {c : Frame} (k1 : 1 ≤ k) (kd : k ≤ d) (il : i ≤ d
   on-wall s = go (view d k i (own k c)) s
     where
       go : {m : Move} → Moved d k i (own k c) m → Stuck N d c m → OnWall N d k i c
-      go (is-far e) (end w) = record {
+      go (is-near e) (end w) = record {
         axis = c .axis d;
         real = g .perm .axis d (omega arith) (omega arith);
         wall = c .near (c .axis d);
         is-wall = w;
         flat = λ j l n. row-before k (c .at (c .axis d)) (c .near (c .axis d)) (c .far (c .axis d)) j (omega (arith, g .perm .back d (omega arith) (omega arith)));
       }
-      go (is-near e z q) (start w) = record {
+      go (is-far e z q) (start w) = record {
         axis = c .axis 1;
         real = g .perm .axis 1 (omega arith) (omega arith);
         wall = c .far (c .axis 1);
@@ -128,7 +128,7 @@ module _ {N d k i : ℕ} {c : Frame} (k1 : 1 ≤ k) (kd : k ≤ d) (il : i ≤ d
       go (is-edge e z q r) = absurd (last z e)
       go (is-right e z q r) = absurd (last z e)
       go (is-swap e z q) = absurd (last z e)
-      go (is-far e) = end (subst (Wall N) at-wall (f .is-wall))
+      go (is-near e) = end (subst (Wall N) at-wall (f .is-wall))
         where
           at-end : c .at a ≡ d
           at-end = pick (decLe d (c .at a))
@@ -139,7 +139,7 @@ module _ {N d k i : ℕ} {c : Frame} (k1 : 1 ≤ k) (kd : k ≤ d) (il : i ≤ d
 
           at-wall : f .wall ≡ c .near (c .axis d)
           at-wall = omega (arith, first (omega arith)) ∙ ap (c .near) (at-axis (g .perm) a d (f .real) at-end)
-      go (is-near e z q) = start (subst (Wall N) at-wall (f .is-wall))
+      go (is-far e z q) = start (subst (Wall N) at-wall (f .is-wall))
         where
           far-is : c .far a ≡ f .wall
           far-is = omega (arith, f .flat d (omega arith) (omega arith), row-in k (c .at a) (c .near a) (c .far a) d (g .perm .last a (f .real)) (omega arith))
