@@ -39,7 +39,8 @@ gives-determined one g g' = writes-determined (λ e. one (g .answer) (g' .answer
 pub code-check-determined : (code : List ℕ) {r r' : ℕ} → r ≡ codeRefusal code → r' ≡ codeRefusal code → r ≡ r'
 code-check-determined code e f = e ∙ sym f
 
-pub path-to-code-determined : (root path : List ℕ) {before after after' : List ℕ} {r r' : Written} → PathToCode root path before r after → PathToCode root path before r' after' → (r ≡ r') × (after ≡ after')
+pub path-to-code-determined : (root path : List ℕ) {before after after' : List ℕ} {r r' : Written} → PathToCode root path before r after
+    → PathToCode root path before r' after' → (r ≡ r') × (after ≡ after')
 path-to-code-determined root path = writes-determined (λ e. refl)
 
 vertices-one : (code a a' : List ℕ) → VerticesOf code a → VerticesOf code a' → a ≡ a'

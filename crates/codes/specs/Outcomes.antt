@@ -10,7 +10,8 @@ use lib.ListN.{length, drop}
 use Rattle.dimension.specs.Sizes.{isDimension, greatestDepth, codeLength, pointsLength}
 use Rattle.bisection.specs.Cells.{cellOf, cellBytes}
 use Rattle.bisection.specs.Codes.{codeOf, IsCodeOf, dimensionOf, depthOf}
-use Rattle.bisection.specs.Refusals.{done, refusedDimension, refusedDepth, refusedPermutation, refusedStep, refusedRoot, refusedDeepest, refusedShort, need, own, firstRefusal, codeRefusal, isRoot, isPath}
+use Rattle.bisection.specs.Refusals.{done, refusedDimension, refusedDepth, refusedPermutation, refusedStep, refusedRoot, refusedDeepest, refusedShort}
+use Rattle.bisection.specs.Refusals.{need, own, firstRefusal, codeRefusal, isRoot, isPath}
 use Rattle.codes.specs.declared.Written.{Written}
 use Rattle.codes.specs.declared.PathWritten.{PathWritten}
 

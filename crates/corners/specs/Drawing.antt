@@ -32,7 +32,8 @@ pub record CellWritten (code before after : List ℕ) : Type 0 where
 
 -- the coordinate of vertex j on the axis of entry i
 abbrev pub drawnAt : List ℕ → ℕ → ℕ → ℕ
-drawnAt code i j = closed (boxLow (axis (getD (entriesOf code) i 0)) 0 (orthantsOf code)) (boxSide (dimensionOf code) (depthOf code)) (minus (getD (entriesOf code) i 0)) i (splitPlace (dimensionOf code) (depthOf code)) j
+drawnAt code i j = closed (boxLow (axis (getD (entriesOf code) i 0)) 0 (orthantsOf code)) (boxSide (dimensionOf code) (depthOf code))
+    (minus (getD (entriesOf code) i 0)) i (splitPlace (dimensionOf code) (depthOf code)) j
 
 module _ (code : List ℕ) (e : codeRefusal code ≡ done) where
   the-code : IsCodeOf code (rootOf code) (pathOf code)
@@ -46,7 +47,8 @@ module _ (code : List ℕ) (e : codeRefusal code ≡ done) where
 
   -- the cell of the code's root and path is drawn by the code's own parts
   pub drawn-code : Drawn (dimensionOf code) (depthOf code) (partsOf code) (cellOf (rootOf code) (pathOf code))
-  drawn-code = rw (the-dimension, the-depth, ap partsOf (the-code .is) ∙ parts-of-code (the-code .good-root) (pathOf code)) (closed-form (rootOf code) (pathOf code) (the-code .good-root) (the-code .good-path .depth))
+  drawn-code = rw (the-dimension, the-depth, ap partsOf (the-code .is) ∙ parts-of-code (the-code .good-root) (pathOf code))
+      (closed-form (rootOf code) (pathOf code) (the-code .good-root) (the-code .good-path .depth))
 
   pub code-dimension : Dimension (dimensionOf code)
   code-dimension = dimension (dimensionOf code) (good code e .dimension)
@@ -57,7 +59,8 @@ module _ (code : List ℕ) (e : codeRefusal code ≡ done) where
   code-reads : (i : ℕ) → i < dimensionOf code → (j : ℕ) → j ≤ dimensionOf code → along (cellOf (rootOf code) (pathOf code)) (axis (getD (entriesOf code) i 0)) j ≡ drawnAt code i j
   code-reads = unfold partsOf in drawn-code .reads
 
-  pub code-written : {before after : List ℕ} → pointsLength (dimensionOf code) ≤ length before → Columns (dimensionOf code) (entriesOf code) (drawnAt code) (dimensionOf code) before after → CellWritten code before after
+  pub code-written : {before after : List ℕ} → pointsLength (dimensionOf code) ≤ length before
+      → Columns (dimensionOf code) (entriesOf code) (drawnAt code) (dimensionOf code) before after → CellWritten code before after
   code-written h c = record { is = columns-all (omega (arith, code-dimension .two)) code-signed (cellOf (rootOf code) (pathOf code)) (drawn-code .sized) code-reads h c }
 
   -- the line of an entry
@@ -75,7 +78,9 @@ module _ (code : List ℕ) (e : codeRefusal code ≡ done) where
         count = unfold partsOf in good code e .passes .boxes .count
 
         within : boxLow (axis (getD (entriesOf code) i 0)) 0 (orthantsOf code) + boxSide (dimensionOf code) (depthOf code) ≤ sideAfter 0
-        within = unfold boxSide in rw (← count) (subst (λ (n : ℕ). boxLow (axis (getD (entriesOf code) i 0)) 0 (orthantsOf code) + sideAfter n ≤ sideAfter 0) (omega arith) (low-inside (axis (getD (entriesOf code) i 0)) 0 (orthantsOf code)))
+        within = unfold boxSide in rw (← count)
+            (subst (λ (n : ℕ). boxLow (axis (getD (entriesOf code) i 0)) 0 (orthantsOf code) + sideAfter n ≤ sideAfter 0) (omega arith)
+            (low-inside (axis (getD (entriesOf code) i 0)) 0 (orthantsOf code)))
 
   -- where the parts stand
   pub code-room : 2 + dimensionOf code ≤ length code
@@ -139,8 +144,10 @@ module _ (code : List ℕ) (e : codeRefusal code ≡ done) (n : ℕ) (q : n ≡ 
       fair = line-fair code e o;
     })
 
-    pub cell-next : {before now after : List ℕ} → Columns (dimensionOf code) (entriesOf code) (drawnAt code) i before now → Column n a (onLine l) (n + 1) now after → Columns (dimensionOf code) (entriesOf code) (drawnAt code) (i + 1) before after
+    pub cell-next : {before now after : List ℕ} → Columns (dimensionOf code) (entriesOf code) (drawnAt code) i before now → Column n a (onLine l) (n + 1) now after
+        → Columns (dimensionOf code) (entriesOf code) (drawnAt code) (i + 1) before after
     cell-next c p = columns-next (code-signed code e) below c a (code-axis code e i below a qa) (onLine l) (line-drawn code e o) (rw q at p)
 
-  pub cell-all : {before after : List ℕ} → pointsLength (dimensionOf code) ≤ length before → (i : ℕ) → i ≤ n → n ≤ i → Columns (dimensionOf code) (entriesOf code) (drawnAt code) i before after → CellWritten code before after
+  pub cell-all : {before after : List ℕ} → pointsLength (dimensionOf code) ≤ length before → (i : ℕ) → i ≤ n → n ≤ i
+      → Columns (dimensionOf code) (entriesOf code) (drawnAt code) i before after → CellWritten code before after
   cell-all {before} {after} s i h l c = code-written code e s (subst (λ (m : ℕ). Columns (dimensionOf code) (entriesOf code) (drawnAt code) m before after) (omega arith) c)

@@ -86,7 +86,8 @@ pub record ColumnReady (d a : ℕ) (line : Line) (room : ℕ) : Type 0 where
 pub column-none : (d a : ℕ) (x : ℕ → ℕ) (l : List ℕ) → Column d a x 0 l l
 column-none d a x l = record { size = refl; here = λ j h. absurd (omega arith); others = λ j b l u h y q. q; past = λ p h. refl }
 
-pub column-next : {d a : ℕ} {x : ℕ → ℕ} {n : ℕ} {before l after : List ℕ} → 1 ≤ a → a ≤ d → n ≤ d → Column d a x n before l → (y : ℕ) → y ≡ x n → Put (spot d n a) y l after → Column d a x (n + 1) before after
+pub column-next : {d a : ℕ} {x : ℕ → ℕ} {n : ℕ} {before l after : List ℕ} → 1 ≤ a → a ≤ d → n ≤ d → Column d a x n before l → (y : ℕ) → y ≡ x n
+    → Put (spot d n a) y l after → Column d a x (n + 1) before after
 column-next {d} {a} {x} {n} {before} {l} {after} lo hi nd c y e p = record {
   size = p .size ∙ c .size;
   here = λ j h. go j h (ℕ-discrete j n);
@@ -135,7 +136,8 @@ cell-at d (v ∷ vs) h zero l p q = ap (λ (n : ℕ). getD (pointBytes v ++ cell
   where
     first : 0 * (2 * d) + p ≡ p
     first = omega (arith, zero-mul (2 * d))
-cell-at d (v ∷ vs) h (suc j) l p q = ap (λ (n : ℕ). getD (pointBytes v ++ cellBytes vs) n 0) more ∙ getD-append-add (pointBytes v) (cellBytes vs) (j * (2 * d) + p) 0 ∙ cell-at d vs (λ i r. h (suc i) (omega arith)) j (omega arith) p q
+cell-at d (v ∷ vs) h (suc j) l p q = ap (λ (n : ℕ). getD (pointBytes v ++ cellBytes vs) n 0) more ∙ getD-append-add (pointBytes v) (cellBytes vs) (j * (2 * d) + p) 0
+    ∙ cell-at d vs (λ i r. h (suc i) (omega arith)) j (omega arith) p q
   where
     more : suc j * (2 * d) + p ≡ length (pointBytes v) + (j * (2 * d) + p)
     more = omega (arith, suc-mul j (2 * d), point-size v, h 0 (omega arith))
@@ -234,7 +236,9 @@ columns-all {d} {es} {x} {before} {after} d0 g vs z is room c = ext-getD 0 after
 
     go : (p : ℕ) → Dec (p < pointsLength d) → getD after p 0 ≡ getD (cellBytes vs ++ drop (pointsLength d) before) p 0
     go p (yes h) = front p h ∙ sym (List·getD-append (cellBytes vs) (drop (pointsLength d) before) 0 p (omega (arith, cell-length z)))
-    go p (no h) = c .past p (omega arith) ∙ sym (ap (λ (n : ℕ). getD (cellBytes vs ++ drop (pointsLength d) before) n 0) at ∙ getD-append-add (cellBytes vs) (drop (pointsLength d) before) (p - pointsLength d) 0 ∙ getD-drop (pointsLength d) before (p - pointsLength d) 0 ∙ ap (λ (n : ℕ). getD before n 0) back)
+    go p (no h) = c .past p (omega arith) ∙ sym
+        (ap (λ (n : ℕ). getD (cellBytes vs ++ drop (pointsLength d) before) n 0) at ∙ getD-append-add (cellBytes vs) (drop (pointsLength d) before) (p - pointsLength d) 0
+        ∙ getD-drop (pointsLength d) before (p - pointsLength d) 0 ∙ ap (λ (n : ℕ). getD before n 0) back)
       where
         at : p ≡ length (cellBytes vs) + (p - pointsLength d)
         at = omega (arith, cell-length z)

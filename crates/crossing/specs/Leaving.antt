@@ -87,7 +87,8 @@ module _ (code : List ℕ) (p : codeRefusal code ≡ done) where
     new = rw row (unfold newAt in sym q);
   })
     where
-      row : move (dimensionOf code) (splitPlace (dimensionOf code) (depthOf code)) i (nextOwn (splitPlace (dimensionOf code) (depthOf code)) (record { entries = entriesOf code; orthants = orthantsOf code })) ≡ nearer
+      row : move (dimensionOf code) (splitPlace (dimensionOf code) (depthOf code)) i
+          (nextOwn (splitPlace (dimensionOf code) (depthOf code)) (record { entries = entriesOf code; orthants = orthantsOf code })) ≡ nearer
       row = unfold move in rw (eq-eqb i (dimensionOf code) q) refl
 
   pub leaving-far : (i e : ℕ) → i ≡ 0 → splitPlace (dimensionOf code) (depthOf code) ≡ dimensionOf code → e ≡ negated (getD code (2 + 0) 0) → Leaving code (dimensionOf code) 0 e i
@@ -120,7 +121,8 @@ module _ (code : List ℕ) (p : codeRefusal code ≡ done) where
       turns : minus (negated (getD (entriesOf code) 0 0)) ≡ not (minus (getD (entriesOf code) 0 0))
       turns = minus-negated (getD (entriesOf code) 0 0) small
 
-      row : move (dimensionOf code) (splitPlace (dimensionOf code) (depthOf code)) i (nextOwn (splitPlace (dimensionOf code) (depthOf code)) (record { entries = entriesOf code; orthants = orthantsOf code })) ≡ farther
+      row : move (dimensionOf code) (splitPlace (dimensionOf code) (depthOf code)) i
+          (nextOwn (splitPlace (dimensionOf code) (depthOf code)) (record { entries = entriesOf code; orthants = orthantsOf code })) ≡ farther
       row = unfold move in rw (ne-eqb i (dimensionOf code) (omega (arith, some)), eq-eqb i 0 q, eq-eqb (splitPlace (dimensionOf code) (depthOf code)) (dimensionOf code) s) refl
 
 -- the same as the code has the code's refusal, its dimension and the facet

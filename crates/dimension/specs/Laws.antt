@@ -5,7 +5,9 @@ use mathlib.Core.Logic.{_⊎_, inl, inr}
 use Prim.Native.Nat.{ℕ, zero, suc, _+_, _*_, _/_, _%_, _-_, _^_, _≤_, _<_}
 use native.Mathlib.Omega.{arith}
 use native.Mathlib.Numerals.{add-one}
-use native.Mathlib.Nat.{mul-comm, div-add-mod', mod-lt, div-div-eq-div-mul, div-lt-iff-lt-mul, mul-div-right, zero-div, zero-mod, eq-of-mul-eq-mul-left, mul-lt-mul-of-pos-right, mul-le-mul-left, mul-le-mul, le-div-iff-mul-le, div-mul-le-self, mul-assoc, lt-of-mul-lt-mul-right, mul-le-mul-right, mul-div-mul-right, mod-eq-sub-mul-div, mul-div-le}
+use native.Mathlib.Nat.{mul-comm, div-add-mod', mod-lt, div-div-eq-div-mul, div-lt-iff-lt-mul, mul-div-right, zero-div, zero-mod, eq-of-mul-eq-mul-left}
+use native.Mathlib.Nat.{mul-lt-mul-of-pos-right, mul-le-mul-left, mul-le-mul, le-div-iff-mul-le, div-mul-le-self, mul-assoc, lt-of-mul-lt-mul-right}
+use native.Mathlib.Nat.{mul-le-mul-right, mul-div-mul-right, mod-eq-sub-mul-div, mul-div-le}
 use native.Mathlib.Decide.{decLt, ℕ-discrete}
 use lib.Arith.{digits-div, digits-mod}
 use lib.Pow.{pow-add, pow-pos, pow-lt}
@@ -13,7 +15,8 @@ use lib.Dec.{T, eqb, eqb·suc-zero, lit<, lit≤}
 use borrow.Author.Tests.{eq-eqb, ne-eqb}
 use Rattle.dimension.specs.declared.Dim.{Dim}
 use Rattle.dimension.specs.declared.Dim.the-variants.{Two, Three, Four}
-use Rattle.dimension.specs.Sizes.{isDimension, axesOf, halvings, cubeSide, greatestDepth, boxDepth, level, splitPlace, sideAfter, boxSide, codeLength, longestCode, mostAxes, longestOfAll, pointsLength, rootCount}
+use Rattle.dimension.specs.Sizes.{isDimension, axesOf, halvings, cubeSide, greatestDepth, boxDepth, level, splitPlace, sideAfter, boxSide}
+use Rattle.dimension.specs.Sizes.{codeLength, longestCode, mostAxes, longestOfAll, pointsLength, rootCount}
 
 -- the three dimensions: at least two axes, and few enough that an axis and its sign fit a byte
 pub record Dimension (d : ℕ) : Type 0 where

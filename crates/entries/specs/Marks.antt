@@ -67,7 +67,9 @@ marks-table = refl
 
 full-high : (d a : ℕ) → d < 9 → 1 ≤ a → a ≤ 8 → high (2 ^ d - 1) a ≡ leb a d
 full-high d zero h l u = absurd (omega arith)
-full-high d (suc a) h l u = same-true (high (2 ^ d - 1) (suc a)) (leb (suc a) d) (each-at 8 (λ a. sameSign (high (2 ^ d - 1) (suc a)) (leb (suc a) d)) (each-at 9 (λ d. each 8 (λ a. sameSign (high (2 ^ d - 1) (suc a)) (leb (suc a) d))) marks-table d h) a (omega arith))
+full-high d (suc a) h l u = same-true (high (2 ^ d - 1) (suc a)) (leb (suc a) d)
+    (each-at 8 (λ a. sameSign (high (2 ^ d - 1) (suc a)) (leb (suc a) d))
+    (each-at 9 (λ d. each 8 (λ a. sameSign (high (2 ^ d - 1) (suc a)) (leb (suc a) d))) marks-table d h) a (omega arith))
 
 -- the walk: the entries before place i are marked, and what is marked stands among the d
 pub record Marked (d : ℕ) (es : List ℕ) (i seen : ℕ) : Type 0 where
@@ -101,7 +103,8 @@ module _ {d : ℕ} {es : List ℕ} {i seen : ℕ} (m : Marked d es i seen) where
   marked-all size h few = go (ℕ-discrete seen (2 ^ d - 1))
     where
       high-of : Signed d es → (a : ℕ) → 1 ≤ a → a ≤ 8 → Dec (a ≤ d) → high seen a ≡ leb a d
-      high-of s a l u (yes q) = subst (λ (b : ℕ). high seen b ≡ true) (t .is) (m .marks (t .place) (omega (arith, t .below)) (t .below) (s .low (t .place) (t .below)) (omega (arith, s .high (t .place) (t .below)))) ∙ sym (le-leb a d q)
+      high-of s a l u (yes q) = subst (λ (b : ℕ). high seen b ≡ true) (t .is)
+          (m .marks (t .place) (omega (arith, t .below)) (t .below) (s .low (t .place) (t .below)) (omega (arith, s .high (t .place) (t .below)))) ∙ sym (le-leb a d q)
         where
           t : Stands es a d
           t = stands s a l q
@@ -112,12 +115,15 @@ module _ {d : ℕ} {es : List ℕ} {i seen : ℕ} (m : Marked d es i seen) where
           none' true e = absurd (omega (arith, s .high (m .from a l u e .place) (m .from a l u e .below), m .from a l u e .is))
 
       go : Dec (seen ≡ 2 ^ d - 1) → eqb seen (2 ^ d - 1) ≡ permutes d es
-      go (yes e) = eq-eqb seen (2 ^ d - 1) e ∙ sym (signed-permutes d es (every-signed d es size (λ a l u. m .from a l (omega arith) (ap (λ (o : ℕ). high o a) e ∙ full-high d a (omega arith) l (omega arith) ∙ le-leb a d u))))
+      go (yes e) = eq-eqb seen (2 ^ d - 1) e ∙ sym
+          (signed-permutes d es (every-signed d es size
+          (λ a l u. m .from a l (omega arith) (ap (λ (o : ℕ). high o a) e ∙ full-high d a (omega arith) l (omega arith) ∙ le-leb a d u))))
       go (no n) = ne-eqb seen (2 ^ d - 1) n ∙ sym (wrong (permutes d es) refl)
         where
           wrong : (t : Bool) → permutes d es ≡ t → t ≡ false
           wrong false e = refl
-          wrong true e = absurd (n (bits-same 8 seen (2 ^ d - 1) (m .byte) (omega (arith, pow-lt {i = d} {j = 8} (omega arith))) (λ a l u. high-of (permutes-signed d es size e) a l u (decLe a d) ∙ sym (full-high d a (omega arith) l u))))
+          wrong true e = absurd (n (bits-same 8 seen (2 ^ d - 1) (m .byte) (omega (arith, pow-lt {i = d} {j = 8} (omega arith)))
+              (λ a l u. high-of (permutes-signed d es size e) a l u (decLe a d) ∙ sym (full-high d a (omega arith) l u))))
 
 -- the d bytes from a place on
 pub permuted-at : (s : List ℕ) (at d i seen : ℕ) → at + d ≤ length s → d ≤ 4 → d ≤ i → Marked d (take d (drop at s)) i seen → eqb seen (1 * 2 ^ d % 2 ^ 8 - 1) ≡ permutes d (drop at s)

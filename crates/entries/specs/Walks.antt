@@ -135,7 +135,8 @@ signsBy k es own = each k (signTest es own)
 
 pub signs-by : (d k : ℕ) (l os : List ℕ) → k ≤ d → signsBy k l (ownByte os) ≡ signsOwn k (take d l) os
 unfolding signsBy signsOwn ownMinus
-signs-by d k l os h = each-same k (signTest l (ownByte os)) (λ i. sameSign (minus (getD (take d l) i 0)) (high (ownByte os) (axis (getD (take d l) i 0)))) (λ i q. rw (getD-take d l i 0 (omega arith)) refl)
+signs-by d k l os h = each-same k (signTest l (ownByte os)) (λ i. sameSign (minus (getD (take d l) i 0)) (high (ownByte os) (axis (getD (take d l) i 0))))
+    (λ i q. rw (getD-take d l i 0 (omega arith)) refl)
 
 -- the first k entries have axes that a byte has bits for
 pub record AxesWithin (k : ℕ) (code : List ℕ) : Type 0 where
@@ -229,7 +230,8 @@ module _ {root : List ℕ} {i : ℕ} (s : PlainSoFar root i) where
 
   pub plain-all : permutes (length root) (drop 0 root) ≡ true → i ≤ length root → length root ≤ i → true ≡ isRoot root
   unfolding isRoot
-  plain-all p l u = sym (and-both (permutes (length root) root) (each (length root) (λ j. not (minus (getD root j 0)))) p (subst (λ (n : ℕ). each n (λ j. not (minus (getD root j 0))) ≡ true) (omega arith) (s .so-far)))
+  plain-all p l u = sym (and-both (permutes (length root) root) (each (length root) (λ j. not (minus (getD root j 0)))) p
+      (subst (λ (n : ℕ). each n (λ j. not (minus (getD root j 0))) ≡ true) (omega arith) (s .so-far)))
 
 -- a path's bytes, under way: each before i is 0 or 1
 pub record StepsSoFar (path : List ℕ) (i : ℕ) : Type 0 where

@@ -33,7 +33,9 @@ bit-flipped u false = xor-step (2 * u + 0) 1 ∙ rw (half, even, xor-zero-r u) (
     even = omega arith
 
 pub flipped-as : (o a : ℕ) → 1 ≤ a → a ≤ 8 → bitXor o (1 * 2 ^ (a - 1) % 2 ^ 8) ≡ flipped a o
-flipped-as o a h l = rw (shifted-bit (a - 1) (omega arith)) (ap (λ (x : ℕ). bitXor x (2 ^ (a - 1))) (p .byte) ∙ ap (bitXor whole) one ∙ xor-block (a - 1) (2 * p .above + digit (p .bit)) 1 (p .below) 0 (p .low) (pow-pos (a - 1))
+flipped-as o a h l = rw (shifted-bit (a - 1) (omega arith))
+    (ap (λ (x : ℕ). bitXor x (2 ^ (a - 1))) (p .byte) ∙ ap (bitXor whole) one ∙ xor-block (a - 1) (2 * p .above + digit (p .bit)) 1 (p .below) 0 (p .low)
+    (pow-pos (a - 1))
     ∙ rw (bit-flipped (p .above) (p .bit), xor-zero-r (p .below)) (sym (p .flip)))
   where
     p : Parts a o
@@ -120,7 +122,8 @@ module _ (n : ℕ) (up : Bool) (a : ℕ) (l : List ℕ) (room : n ≤ length l) 
 
     carrying-is : (v : ℕ) → v ≡ flipped a (getD l u 0) → set buf u v ≡ carriedIn u n up a l
     unfolding carriedIn
-    carrying-is v f = ap (λ (m : List ℕ). set m u v) (s .is ∙ ap (λ (m : List ℕ). m ++ (carried up a (slice t n l) ++ drop n l)) begin ∙ append-snoc (take u l) (getD l u 0) (carried up a (slice t n l) ++ drop n l))
+    carrying-is v f = ap (λ (m : List ℕ). set m u v)
+        (s .is ∙ ap (λ (m : List ℕ). m ++ (carried up a (slice t n l) ++ drop n l)) begin ∙ append-snoc (take u l) (getD l u 0) (carried up a (slice t n l) ++ drop n l))
         ∙ set-at (take u l) (getD l u 0) (carried up a (slice t n l) ++ drop n l) v u (length-take-le u l (omega arith))
         ∙ rw (f, flipped-too) refl
       where
@@ -140,13 +143,15 @@ module _ (n : ℕ) (up : Bool) (a : ℕ) (l : List ℕ) (room : n ≤ length l) 
         ∙ ap (λ (m : List ℕ). m ++ (carried up a (slice u n l) ++ drop n l)) first
         ∙ append-assoc (take from l) (slice from u l) (carried up a (slice u n l) ++ drop n l)
         ∙ ap (λ (m : List ℕ). take from l ++ m) (sym (append-assoc (slice from u l) (carried up a (slice u n l)) (drop n l)))
-        ∙ ap (λ (m : List ℕ). take from l ++ (m ++ drop n l)) (sym (ap (carried up a) middle ∙ carried-front up a (slice u n l) (runs-more ∙ same-turned (high (getD l u 0) a) up ∙ q) (slice from u l)))
+        ∙ ap (λ (m : List ℕ). take from l ++ (m ++ drop n l))
+        (sym (ap (carried up a) middle ∙ carried-front up a (slice u n l) (runs-more ∙ same-turned (high (getD l u 0) a) up ∙ q) (slice from u l)))
       where
         first : take u l ≡ take from l ++ slice from u l
         first = sym (take-append-drop from (take u l)) ∙ ap (λ (m : List ℕ). m ++ slice from u l) (take-take from u l (omega arith))
 
         middle : slice from n l ≡ slice from u l ++ slice u n l
-        middle = ap (drop from) (sym (take-append-drop u (take n l)) ∙ ap (λ (m : List ℕ). m ++ slice u n l) (take-take u n l (omega arith))) ∙ drop-append-le from (take u l) (slice u n l) (omega (arith, length-take-le u l (omega arith)))
+        middle = ap (drop from) (sym (take-append-drop u (take n l)) ∙ ap (λ (m : List ℕ). m ++ slice u n l) (take-take u n l (omega arith))) ∙ drop-append-le from
+            (take u l) (slice u n l) (omega (arith, length-take-le u l (omega arith)))
 
     -- the same of the orthant as it is read from the buffer
     module _ (v x : ℕ) (ax : x ≡ a) (f : v ≡ flipped x (getD buf u 0)) where

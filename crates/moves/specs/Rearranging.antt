@@ -69,7 +69,8 @@ traded-as k es h l = ext-getD 0 (traded k es) (negatedAt 0 (negatedAt k (exchang
 
     go : (q : ℕ) → Dec (q ≡ 0) → Dec (q ≡ k) → getD (set (set es 0 (negated (getD es k 0))) k (negated (getD es 0 0))) q 0 ≡ getD (negatedAt 0 (negatedAt k x)) q 0
     go q (yes e) f = rw e (getD-set-other (set es 0 (negated (getD es k 0))) k 0 (negated (getD es 0 0)) 0 (omega arith) ∙ getD-set-same es 0 (negated (getD es k 0)) 0 (omega arith)
-        ∙ sym (negatedAt-at 0 (negatedAt k x) 0 refl (omega (arith, negatedAt-length k x, in-x)) ∙ ap negated (negatedAt-other k x 0 (omega arith) ∙ exchanged-first 0 k es (omega arith) l (omega arith))))
+        ∙ sym (negatedAt-at 0 (negatedAt k x) 0 refl (omega (arith, negatedAt-length k x, in-x)) ∙ ap negated
+        (negatedAt-other k x 0 (omega arith) ∙ exchanged-first 0 k es (omega arith) l (omega arith))))
     go q (no e) (yes f) = rw f (getD-set-same (set es 0 (negated (getD es k 0))) k (negated (getD es 0 0)) 0 (omega (arith, length-set es 0 (negated (getD es k 0))))
         ∙ sym (negatedAt-other 0 (negatedAt k x) k (omega arith) ∙ negatedAt-at k x k refl in-x ∙ ap negated (exchanged-second 0 k es (omega arith) l)))
     go q (no e) (no f) = getD-set-other (set es 0 (negated (getD es k 0))) k q (negated (getD es 0 0)) 0 f ∙ getD-set-other es 0 q (negated (getD es k 0)) 0 e
@@ -92,7 +93,8 @@ pub within-is : (d k i : ℕ) (own : Bool) → i < d → (i ≡ 0 → k < d) →
 unfolding move within
 within-is d k i own h f = rw (ne-eqb i d (omega arith)) (go (ℕ-discrete i 0))
   where
-    go : Dec (i ≡ 0) → cond (eqb i 0) (cond (eqb k d) farther (cond own left trade)) (cond (eqb i k) (cond own (swap k) right) (swap i)) ≡ cond (eqb i 0) (cond own left trade) (cond (eqb i k) (cond own (swap k) right) (swap i))
+    go : Dec (i ≡ 0)
+        → cond (eqb i 0) (cond (eqb k d) farther (cond own left trade)) (cond (eqb i k) (cond own (swap k) right) (swap i)) ≡ cond (eqb i 0) (cond own left trade) (cond (eqb i k) (cond own (swap k) right) (swap i))
     go (yes e) = rw (eq-eqb i 0 e, ne-eqb k d (omega (arith, f e))) refl
     go (no e) = rw (ne-eqb i 0 e) refl
 
@@ -115,7 +117,14 @@ pub record MovableAt (k : ℕ) (l : List ℕ) : Type 0 where
 
 module _ {k i : ℕ} {l : List ℕ} (m : Movable k i l) where
   at-split : k < m .d → MovableAt k l
-  at-split h = record { some = m .split; room = omega (arith, m .room); first = subst (λ (e : ℕ). 1 ≤ axis e) one (m .signed .low 0 (omega arith)); low = rw (entry-at l 2 (m .d) k h) (m .signed .low k h); high = rw (entry-at l 2 (m .d) k h) (omega (arith, m .signed .high k h, m .few)) }
+  at-split h = record {
+    some = m .split;
+    room = omega (arith, m .room);
+    first = subst (λ (e : ℕ). 1 ≤ axis e) one (m .signed .low 0 (omega arith));
+    low = rw
+        (entry-at l 2 (m .d) k h) (m .signed .low k h);
+    high = rw (entry-at l 2 (m .d) k h) (omega (arith, m .signed .high k h, m .few));
+  }
     where
       one : getD (take (m .d) (drop 2 l)) 0 0 ≡ getD l 2 0
       one = getD-take (m .d) (drop 2 l) 0 0 (omega arith) ∙ getD-drop 2 l 0 0

@@ -125,7 +125,8 @@ module _ (l : List ℕ) (at n : ℕ) (h : at + n < length l) where
   pub turning-next : (i : ℕ) (buf : List ℕ) (moved : ℕ) → 0 < i → i ≤ n + 1 → Turning l at n i buf moved → Turning l at n (i - 1) (set buf (at + (i - 1)) moved) (getD buf (at + (i - 1)) 0)
   turning-next i buf moved p u t = record {
     filled = filled-down (t .filled) (at + (i - 1)) moved (omega arith) (omega arith) (omega arith) (t .next (i - 1) (omega arith));
-    next = λ j q. t .filled .below (at + (i - 1)) (omega arith) ∙ ap (λ (x : ℕ). getD l (at + x) 0) (sym q) ∙ sym (place-from at (turned (suc n)) l (omega arith) j ∙ turned-before n (drop at l) room j (omega arith) ∙ getD-drop at l (suc j) 0);
+    next = λ j q. t .filled .below (at + (i - 1)) (omega arith) ∙ ap (λ (x : ℕ). getD l (at + x) 0) (sym q) ∙ sym
+        (place-from at (turned (suc n)) l (omega arith) j ∙ turned-before n (drop at l) room j (omega arith) ∙ getD-drop at l (suc j) 0);
   }
 
   pub turning-all : (i : ℕ) (buf : List ℕ) (moved : ℕ) → i ≤ 0 → Turning l at n i buf moved → buf ≡ atPlace at (turned (suc n)) l
@@ -145,12 +146,18 @@ module _ (l : List ℕ) (at n : ℕ) (h : at + n < length l) where
 
   pub unturning-none : (moved : ℕ) → moved ≡ negated (getD l (at + n) 0) → Unturning l at n 0 l moved
   unfolding unturned
-  unturning-none moved e = record { filled = filled-none l (atPlace at (unturned n) l) at (at + 0) (omega arith); next = λ q. e ∙ sym (place-from at (unturned n) l (omega arith) 0 ∙ ap negated (getD-drop at l n 0)) }
+  unturning-none moved e = record {
+    filled = filled-none l (atPlace at (unturned n) l) at (at + 0) (omega arith);
+    next = λ q. e ∙ sym
+        (place-from at (unturned n) l (omega arith) 0 ∙ ap negated (getD-drop at l n 0));
+  }
 
   pub unturning-next : (i : ℕ) (buf : List ℕ) (moved : ℕ) → i ≤ n → Unturning l at n i buf moved → Unturning l at n (i + 1) (set buf (at + i) moved) (getD buf (at + i) 0)
   unturning-next i buf moved u t = record {
     filled = filled-up (t .filled) moved (at + (i + 1)) (omega arith) (omega arith) (omega arith) (t .next u);
-    next = λ q. t .filled .above (at + i) (omega arith) ∙ sym (ap (λ (x : ℕ). getD (atPlace at (unturned n) l) (at + x) 0) (add-one i) ∙ place-from at (unturned n) l (omega arith) (suc i) ∙ unturned-moved n (drop at l) back-room i (omega arith) ∙ getD-drop at l i 0);
+    next = λ q. t .filled .above (at + i) (omega arith) ∙ sym
+        (ap (λ (x : ℕ). getD (atPlace at (unturned n) l) (at + x) 0) (add-one i) ∙ place-from at (unturned n) l (omega arith) (suc i) ∙ unturned-moved n
+        (drop at l) back-room i (omega arith) ∙ getD-drop at l i 0);
   }
 
   pub unturning-all : (i : ℕ) (buf : List ℕ) (moved : ℕ) → n < i → i ≤ n + 1 → Unturning l at n i buf moved → buf ≡ atPlace at (unturned n) l

@@ -50,7 +50,15 @@ module _ {d D : ℕ} {code root path : List ℕ} (k : ClimbReady d D code root p
   small = omega (arith, k .range .few)
 
   pub climb-none : Climbed d D code D root path root path
-  climb-none = record { root-size = refl; path-size = refl; passes = k .passes; the-root = refl; the-path = rw less (append-nil (pathTo d D (nameAbove d D code root))); root-rest = refl; path-rest = refl }
+  climb-none = record {
+    root-size = refl;
+    path-size = refl;
+    passes = k .passes;
+    the-root = refl;
+    the-path = rw less (append-nil (pathTo d D (nameAbove d D code root)));
+    root-rest = refl;
+    path-rest = refl;
+  }
     where
       less : D - D ≡ 0
       less = omega arith
@@ -146,7 +154,8 @@ module _ {d D : ℕ} {code root path : List ℕ} (k : ClimbReady d D code root p
         path-rest = drop-set-lt D path' t b (omega arith) ∙ c .path-rest;
       }
 
-    pub climb-next : (p own b : ℕ) (r : List ℕ) → p ≡ splitPlace d t - 1 → own ≡ ownByte (take (boxDepth d t) (drop (2 + d) code)) → StepsBack 0 p own root' b r → Climbed d D code t root path r (set path' t b)
+    pub climb-next : (p own b : ℕ) (r : List ℕ) → p ≡ splitPlace d t - 1 → own ≡ ownByte (take (boxDepth d t) (drop (2 + d) code)) → StepsBack 0 p own root' b r
+        → Climbed d D code t root path r (set path' t b)
     unfolding n
     climb-next p own b r e o s = climbed p own b r e o s
 
@@ -170,5 +179,6 @@ module _ {d D : ℕ} {code root path : List ℕ} (k : ClimbReady d D code root p
   pub up-ready : (p : ℕ) → p ≡ splitPlace d (t - 1) - 1 → (0 + p < length root') × (1 ≤ axis (getD root' (0 + p) 0)) × (axis (getD root' (0 + p) 0) ≤ 8)
   up-ready = climb-ready k c' deep'
 
-  pub up-next : (p own b : ℕ) (r : List ℕ) → p ≡ splitPlace d (t - 1) - 1 → own ≡ ownByte (take (boxDepth d (t - 1)) (drop (2 + d) code)) → StepsBack 0 p own root' b r → Climbed d D code (t - 1) root path r (set path' (t - 1) b)
+  pub up-next : (p own b : ℕ) (r : List ℕ) → p ≡ splitPlace d (t - 1) - 1 → own ≡ ownByte (take (boxDepth d (t - 1)) (drop (2 + d) code)) → StepsBack 0 p own root' b r
+      → Climbed d D code (t - 1) root path r (set path' (t - 1) b)
   up-next = climb-next k c' deep'

@@ -101,7 +101,9 @@ module _ {code out : List ℕ} {i : ℕ} {buf : List ℕ} (s : Copying code out 
 
       go : (j : ℕ) → Dec (j < n) → getD buf j 0 ≡ getD (take n code ++ drop n out) j 0
       go j (yes q) = s .copied j (omega arith) ∙ sym (List·getD-append (take n code) (drop n out) 0 j (omega (arith, front)) ∙ getD-take n code j 0 q)
-      go j (no q) = s .past j (omega arith) ∙ sym (ap (λ (x : ℕ). getD (take n code ++ drop n out) x 0) there ∙ getD-append-add (take n code) (drop n out) (j - n) 0 ∙ getD-drop n out (j - n) 0 ∙ ap (λ (x : ℕ). getD out x 0) back)
+      go j (no q) = s .past j (omega arith) ∙ sym
+          (ap (λ (x : ℕ). getD (take n code ++ drop n out) x 0) there ∙ getD-append-add (take n code) (drop n out) (j - n) 0 ∙ getD-drop n out (j - n) 0 ∙ ap
+          (λ (x : ℕ). getD out x 0) back)
         where
           there : j ≡ length (take n code) + (j - n)
           there = omega (arith, front)

@@ -47,13 +47,20 @@ module _ {d : ℕ} {path : List ℕ} {t : ℕ} {l r : List ℕ} (d0 : 0 < d) (sm
   walked = simp length-take (omega arith)
 
   pub walk-ready : codeLength d (length path) ≤ length l → (codeLength d (suc t) ≤ length r) × Passes d t (nameIn d t r)
-  walk-ready room = (omega (arith, w .size, length-mono d d0 (suc t) (length path) h), rw (w .name) (subst (λ (j : ℕ). Passes d j (nameBelow d 0 (nameIn d 0 l) (take t path))) (zero-add (length (take t path)) ∙ walked) (below-passes d d0 small (take t path) 0 (nameIn d 0 l) p)))
+  walk-ready room = (
+    omega (arith, w .size, length-mono d d0 (suc t) (length path) h),
+    rw (w .name)
+        (subst (λ (j : ℕ). Passes d j (nameBelow d 0 (nameIn d 0 l) (take t path))) (zero-add (length (take t path)) ∙ walked)
+        (below-passes d d0 small (take t path) 0 (nameIn d 0 l) p)),
+  )
 
   pub walk-next : (s : List ℕ) → StepsTo d t (getD path t 0) r s → WalksTo d path (t + 1) l s
   walk-next s k = rw (add-one t) (record {
     size = k .size ∙ w .size;
     head = k .head ∙ w .head;
-    name = k .name ∙ ap (step d t (getD path t 0)) (w .name) ∙ sym (ap (nameBelow d 0 (nameIn d 0 l)) (take-suc path t 0 h) ∙ below-snoc d d0 small (take t path) 0 (nameIn d 0 l) (getD path t 0) ∙ ap (λ (j : ℕ). step d j (getD path t 0) (nameBelow d 0 (nameIn d 0 l) (take t path))) (zero-add (length (take t path)) ∙ walked));
+    name = k .name ∙ ap (step d t (getD path t 0)) (w .name) ∙ sym
+        (ap (nameBelow d 0 (nameIn d 0 l)) (take-suc path t 0 h) ∙ below-snoc d d0 small (take t path) 0 (nameIn d 0 l) (getD path t 0) ∙ ap
+        (λ (j : ℕ). step d j (getD path t 0) (nameBelow d 0 (nameIn d 0 l) (take t path))) (zero-add (length (take t path)) ∙ walked));
     rest = k .rest ∙ drop-both (codeLength d t) (codeLength d (suc t)) r l (length-grows d t d0) (w .rest);
   })
 
@@ -94,7 +101,9 @@ module _ {d : ℕ} {root path code : List ℕ} (k : CodeReady d root path code) 
 
   start-is : start ≡ d ∷ length path ∷ (root ++ drop d (drop 2 code))
   unfolding start
-  start-is = rw (headed code d (length path) (omega (arith, code-two))) (ap (λ (l : List ℕ). d ∷ length path ∷ (l ++ drop (2 + d) (d ∷ length path ∷ drop 2 code))) (take-all d root (omega (arith, k .axes))) ∙ ap (λ (j : ℕ). d ∷ length path ∷ (root ++ drop j (d ∷ length path ∷ drop 2 code))) two)
+  start-is = rw (headed code d (length path) (omega (arith, code-two)))
+      (ap (λ (l : List ℕ). d ∷ length path ∷ (l ++ drop (2 + d) (d ∷ length path ∷ drop 2 code))) (take-all d root (omega (arith, k .axes))) ∙ ap
+      (λ (j : ℕ). d ∷ length path ∷ (root ++ drop j (d ∷ length path ∷ drop 2 code))) two)
     where
       two : 2 + d ≡ suc (suc d)
       two = omega arith
@@ -115,7 +124,8 @@ module _ {d : ℕ} {root path code : List ℕ} (k : CodeReady d root path code) 
   ready : (codeLength d (length path) ≤ length start) × Passes d 0 (nameIn d 0 start)
   ready = (rw start-size (k .room), rw start-name rooted)
 
-  pub code-ready : (codeLength d (length path) ≤ length (paste (set (set code 0 d) 1 (length path)) 2 (drop 0 root) d)) × Passes d 0 (nameIn d 0 (paste (set (set code 0 d) 1 (length path)) 2 (drop 0 root) d))
+  pub code-ready : (codeLength d (length path) ≤ length (paste (set (set code 0 d) 1 (length path)) 2 (drop 0 root) d)) × Passes d 0
+      (nameIn d 0 (paste (set (set code 0 d) 1 (length path)) 2 (drop 0 root) d))
   unfolding start
   code-ready = ready
 

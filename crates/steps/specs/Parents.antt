@@ -22,7 +22,8 @@ use Rattle.steps.specs.Relatives.{ParentReady, length-grows}
 pub unstepped-append : (b n : ℕ) (es rest : List ℕ) → n < length es → unstepped b n (es ++ rest) ≡ unstepped b n es ++ rest
 unfolding unstepped unturned
 unstepped-append zero n es rest h = refl
-unstepped-append (suc b) n es rest h = rw (List·getD-append es rest 0 n h, take-append-le n es rest (omega arith), drop-append-le (suc n) es rest h) (ap (λ (l : List ℕ). negated (getD es n 0) ∷ l) (sym (append-assoc (take n es) (drop (suc n) es) rest)))
+unstepped-append (suc b) n es rest h = rw (List·getD-append es rest 0 n h, take-append-le n es rest (omega arith), drop-append-le (suc n) es rest h)
+    (ap (λ (l : List ℕ). negated (getD es n 0) ∷ l) (sym (append-assoc (take n es) (drop (suc n) es) rest)))
 
 module _ {code out : List ℕ} {d D : ℕ} (r : ParentReady code d D out) where
   k : Checked code
@@ -77,7 +78,8 @@ module _ {code out : List ℕ} {d D : ℕ} (r : ParentReady code d D out) where
 
   is : code ≡ d ∷ suc D ∷ (es ++ os)
   unfolding m es os
-  is = whole ∙ ap (λ (x : ℕ). x ∷ depthOf code ∷ ((partsOf code) .entries ++ (partsOf code) .orthants)) (sym (r .axes)) ∙ ap (λ (y : ℕ). d ∷ y ∷ ((partsOf code) .entries ++ (partsOf code) .orthants)) (sym (r .depth))
+  is = whole ∙ ap (λ (x : ℕ). x ∷ depthOf code ∷ ((partsOf code) .entries ++ (partsOf code) .orthants)) (sym (r .axes)) ∙ ap
+      (λ (y : ℕ). d ∷ y ∷ ((partsOf code) .entries ++ (partsOf code) .orthants)) (sym (r .depth))
     where
       whole : code ≡ dimensionOf code ∷ depthOf code ∷ ((partsOf code) .entries ++ (partsOf code) .orthants)
       whole = unfold bytes in k .good .is
@@ -140,7 +142,8 @@ module _ {code out : List ℕ} {d D : ℕ} (r : ParentReady code d D out) where
       step : b ≡ lastStep d D m
       step = s .step ∙ unfold lastStep ownMinus fewer n es os in rw (entry-is j v e p q, o) refl
 
-      again : d ∷ D ∷ ((unstepped (lastStep d D m) n es ++ take (boxDepth d D) os) ++ drop (codeLength d D) out) ≡ d ∷ D ∷ (((parentName d D m) .entries ++ (parentName d D m) .orthants) ++ drop (codeLength d D) out)
+      again : d ∷ D ∷ ((unstepped (lastStep d D m) n es ++ take (boxDepth d D) os) ++ drop (codeLength d D) out) ≡ d ∷ D ∷
+          (((parentName d D m) .entries ++ (parentName d D m) .orthants) ++ drop (codeLength d D) out)
       again = unfold fewer n es os in refl
 
   pub parent-written : (j v p own b : ℕ) (a : List ℕ) → j ≡ codeLength d D → v ≡ D → p ≡ splitPlace d D - 1 → own ≡ ownByte (take (boxDepth d D) (drop (2 + d) code))

@@ -63,7 +63,8 @@ framed d E r n x y e f = sym (take-append-drop 2 r) ∙ rw f (ap (λ (l : List �
 
 -- a copy to the front
 drop-more : (xs ys : List ℕ) (m : ℕ) → length xs ≤ m → drop m (xs ++ drop (length xs) ys) ≡ drop m ys
-drop-more xs ys m h = ap (λ (k : ℕ). drop k (xs ++ drop (length xs) ys)) (sym parts) ∙ drop-append-add xs (drop (length xs) ys) (m - length xs) ∙ drop-drop (m - length xs) (length xs) ys ∙ ap (λ (k : ℕ). drop k ys) parts
+drop-more xs ys m h = ap (λ (k : ℕ). drop k (xs ++ drop (length xs) ys)) (sym parts) ∙ drop-append-add xs (drop (length xs) ys) (m - length xs) ∙ drop-drop
+    (m - length xs) (length xs) ys ∙ ap (λ (k : ℕ). drop k ys) parts
   where
     parts : length xs + (m - length xs) ≡ m
     parts = omega arith
@@ -148,7 +149,8 @@ module _ {code out : List ℕ} {d D : ℕ} (r : ChildReady code d D out) where
   ready : (v : ℕ) → (codeLength d (suc D) ≤ length (childBuffer v)) × Passes d D (nameIn d D (childBuffer v))
   ready v = (rw (buffer-size v) (r .room), rw (buffer-name v) passes)
 
-  pub child-ready : (v : ℕ) → (codeLength d (suc D) ≤ length (set (take (length code) code ++ drop (length code) out) 1 v)) × Passes d D (nameIn d D (set (take (length code) code ++ drop (length code) out) 1 v))
+  pub child-ready : (v : ℕ)
+      → (codeLength d (suc D) ≤ length (set (take (length code) code ++ drop (length code) out) 1 v)) × Passes d D (nameIn d D (set (take (length code) code ++ drop (length code) out) 1 v))
   unfolding childBuffer
   child-ready v = ready v
 

@@ -132,7 +132,8 @@ module _ (d D b : ℕ) (d0 : 0 < d) (l : List ℕ) (h : codeLength d (suc D) ≤
 
     size1 : length l1 ≡ length l
     unfolding es'
-    size1 = rw turned-is (length-append (take 2 l) (stepped b k es ++ drop d (drop 2 l)) ∙ rw (two, length-append (stepped b k es) (drop d (drop 2 l)), signed' .size, length-drop d (drop 2 l), length-drop 2 l) (omega (arith, room)))
+    size1 = rw turned-is (length-append (take 2 l) (stepped b k es ++ drop d (drop 2 l)) ∙ rw
+        (two, length-append (stepped b k es) (drop d (drop 2 l)), signed' .size, length-drop d (drop 2 l), length-drop 2 l) (omega (arith, room)))
 
     turned-entries : take d (drop 2 l1) ≡ es'
     turned-entries = rw entries1 (take-at es' behind d (signed' .size))

@@ -17,19 +17,39 @@ loop-holds : tie.Need-loop-holds Inv-loop μ-loop
 loop-holds c = (omega arith, column-none _ _ _ _)
 
 mul-put : tie.Need-mul-put Inv-loop μ-loop
-mul-put c = let s = c .before .before .before .before in omega (arith, s .pre .space, spot-under (s .args .d) (c .before .before .loop .j) (s .args .axis) (s .pre .low) (s .pre .high) (omega (arith, c .before .loop-test .taken)))
+mul-put c =
+    let s = c .before .before .before .before in omega (
+      arith,
+      s .pre .space,
+      spot-under (s .args .d) (c .before .before .loop .j) (s .args .axis) (s .pre .low) (s .pre .high)
+          (omega (arith, c .before .loop-test .taken)),
+    )
 
 sub-put : tie.Need-sub-put Inv-loop μ-loop
 sub-put c = omega (arith, c .before .before .before .before .pre .low)
 
 add-put : tie.Need-add-put Inv-loop μ-loop
-add-put c = let s = c .before .before .before .before in omega (arith, s .pre .space, spot-under (s .args .d) (c .before .before .loop .j) (s .args .axis) (s .pre .low) (s .pre .high) (omega (arith, c .before .loop-test .taken)))
+add-put c =
+    let s = c .before .before .before .before in omega (
+      arith,
+      s .pre .space,
+      spot-under (s .args .d) (c .before .before .loop .j) (s .args .axis) (s .pre .low) (s .pre .high)
+          (omega (arith, c .before .loop-test .taken)),
+    )
 
 coordinate-requires : tie.Need-coordinate-requires Inv-loop μ-loop
 coordinate-requires c κs = fair-below (c .before .before .before .before .pre .fair) (c .before .before .loop .j) (omega (arith, c .before .loop-test .taken))
 
 put-requires : tie.Need-put-requires Inv-loop μ-loop
-put-requires c κs = let s = c .before .before .before .before .before in omega (arith, s .pre .space, c .before .before .before .loop .inv .1 .size, spot-under (s .args .d) (c .before .before .before .loop .j) (s .args .axis) (s .pre .low) (s .pre .high) (omega (arith, c .before .before .loop-test .taken)))
+put-requires c κs =
+    let loop = c .before .before .before .loop in
+    let s = c .before .before .before .before .before in omega (
+      arith,
+      s .pre .space,
+      loop .inv .1 .size,
+      spot-under (s .args .d) (loop .j) (s .args .axis) (s .pre .low) (s .pre .high)
+          (omega (arith, c .before .before .loop-test .taken)),
+    )
 
 add-j : tie.Need-add-j Inv-loop μ-loop
 add-j c = omega (arith, c .before .before .before .before .before .before .before .before .pre .few)
@@ -38,7 +58,15 @@ loop-less : tie.Need-loop-less Inv-loop μ-loop
 loop-less c = search needs
 
 loop-again : tie.Need-loop-again Inv-loop μ-loop
-loop-again c = let s = c .before .before .before .before .before .before .before .before in (omega arith, column-next (s .pre .low) (s .pre .high) (omega (arith, c .before .before .before .before .before .loop-test .taken)) (c .before .before .before .before .before .before .loop .inv .1) _ (c .before .before .before .coordinate .ensures) (c .before .before .put .ensures))
+loop-again c =
+    let loop = c .before .before .before .before .before .before .loop in
+    let the-loop-test = c .before .before .before .before .before .loop-test in
+    let coordinate = c .before .before .before .coordinate in
+    let s = c .before .before .before .before .before .before .before .before in (
+      omega arith,
+      column-next (s .pre .low) (s .pre .high) (omega (arith, the-loop-test .taken)) (loop .inv .1) _ (coordinate .ensures)
+          (c .before .before .put .ensures),
+    )
 
 same-length : tie.Need-same-length Inv-loop μ-loop
 same-length c = c .before .loop .inv .1 .size

@@ -14,19 +14,36 @@ step-of-requires : tie.Need-step-of-requires
 step-of-requires c κs = search needs
 
 moved-requires : tie.Need-moved-requires
-moved-requires c κs = let s = c .before .before .before .before .before .before in far-moves (s .args .line) (s .args .j) (s .pre) _ (c .before .before .before .before .before .near-side .ensures) (c .before .before .before .if1 .left) (c .before .if2 .taken) _ (c .step-of .ensures)
+moved-requires c κs =
+    let near-side = c .before .before .before .before .before .near-side in
+    let if1 = c .before .before .before .if1 in
+    let s = c .before .before .before .before .before .before in far-moves (s .args .line) (s .args .j) (s .pre) _ (near-side .ensures) (if1 .left)
+    (c .before .if2 .taken) _ (c .step-of .ensures)
 
 returns-2 : tie.Need-returns-2
-returns-2 c = let s = c .before .before .before .before .before .before .before in line-far (s .args .line) (s .args .j) (s .pre) _ (c .before .before .before .before .before .before .near-side .ensures) (c .before .before .before .before .if1 .left) (c .before .before .if2 .taken) _ (c .before .step-of .ensures) _ (c .moved .ensures)
+returns-2 c =
+    let near-side = c .before .before .before .before .before .before .near-side in
+    let if1 = c .before .before .before .before .if1 in
+    let s = c .before .before .before .before .before .before .before in line-far (s .args .line) (s .args .j) (s .pre) _ (near-side .ensures) (if1 .left)
+    (c .before .before .if2 .taken) _ (c .before .step-of .ensures) _ (c .moved .ensures)
 
 step-of-requires-2 : tie.Need-step-of-requires-2
 step-of-requires-2 c κs = search needs
 
 moved-requires-2 : tie.Need-moved-requires-2
-moved-requires-2 c κs = let s = c .before .before .before .before .before .before .before in middle-moves (s .args .line) (s .args .j) (s .pre) _ (c .before .before .before .before .before .before .near-side .ensures) (c .before .before .before .before .if1 .left) (c .before .before .if2 .left) _ (c .step-of2 .ensures)
+moved-requires-2 c κs =
+    let near-side = c .before .before .before .before .before .before .near-side in
+    let if1 = c .before .before .before .before .if1 in
+    let s = c .before .before .before .before .before .before .before in middle-moves (s .args .line) (s .args .j) (s .pre) _ (near-side .ensures) (if1 .left)
+    (c .before .before .if2 .left) _ (c .step-of2 .ensures)
 
 returns-3 : tie.Need-returns-3
-returns-3 c = let s = c .before .before .before .before .before .before .before .before in line-middle (s .args .line) (s .args .j) (s .pre) _ (c .before .before .before .before .before .before .before .near-side .ensures) (c .before .before .before .before .before .if1 .left) (c .before .before .before .if2 .left) _ (c .before .step-of2 .ensures) _ (c .moved2 .ensures)
+returns-3 c =
+    let near-side = c .before .before .before .before .before .before .before .near-side in
+    let if1 = c .before .before .before .before .before .if1 in
+    let if2 = c .before .before .before .if2 in
+    let s = c .before .before .before .before .before .before .before .before in line-middle (s .args .line) (s .args .j) (s .pre) _ (near-side .ensures) (if1 .left)
+    (if2 .left) _ (c .before .step-of2 .ensures) _ (c .moved2 .ensures)
 
 pub coordinate-spec : {M : Type 1} → statement M
 coordinate-spec =

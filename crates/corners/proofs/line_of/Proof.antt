@@ -33,7 +33,13 @@ split-place-requires : tie.Need-split-place-requires
 split-place-requires c κs = search needs
 
 returns : tie.Need-returns
-returns c = line-made (c .before .before .before .before .before .before .before .before .before .pre) _ _ (c .before .before .before .before .axis-of .ensures) (c .before .before .before .before .before .size .ensures) _ _ _ _ (c .before .before .before .low-side .ensures) (c .before .before .box-side .ensures) (c .before .is-minus .ensures) (c .split-place .ensures)
+returns c =
+    let pre = c .before .before .before .before .before .before .before .before .before .pre in
+    let size = c .before .before .before .before .before .size in
+    let axis-of = c .before .before .before .before .axis-of in
+    let low-side = c .before .before .before .low-side in
+    line-made (pre) _ _ (axis-of .ensures) (size .ensures) _ _ _ _ (low-side .ensures) (c .before .before .box-side .ensures) (c .before .is-minus .ensures)
+    (c .split-place .ensures)
 
 pub line-of-spec : {M : Type 1} → statement M
 line-of-spec =

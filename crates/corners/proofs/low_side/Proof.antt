@@ -25,7 +25,12 @@ add-i : tie.Need-add-i Inv-loop μ-loop
 add-i c = let s = c .before .before .before in omega (arith, c .axes .ensures, s .pre .2, s .good)
 
 loop-holds : tie.Need-loop-holds Inv-loop μ-loop
-loop-holds c = let s = c .before .before .before in (omega (arith, c .axes .ensures, s .pre .2), low-none _ _ (axesOf (s .args .dim)) (omega (arith, axes-range (s .args .dim) .two)) _ (c .before .box-side .ensures))
+loop-holds c =
+    let s = c .before .before .before in (
+      omega (arith, c .axes .ensures, s .pre .2),
+      low-none _ _ (axesOf (s .args .dim)) (omega (arith, axes-range (s .args .dim) .two)) _
+          (c .before .box-side .ensures),
+    )
 
 shared-slice-read-is-high : tie.Need-shared-slice-read-is-high Inv-loop μ-loop
 shared-slice-read-is-high c = search needs
@@ -37,19 +42,31 @@ add-i-2 : tie.Need-add-i-2 Inv-loop μ-loop
 add-i-2 c = search needs
 
 add-low : tie.Need-add-low Inv-loop μ-loop
-add-low c = record { fits = low-room (c .before .before .before .before .before .before .before .before .args .code .now) (c .before .before .before .before .loop .i) (c .before .before .before .loop-test .taken) (c .before .before .before .before .loop .inv .1) }
+add-low c =
+    let args = c .before .before .before .before .before .before .before .before .args in
+    let loop = c .before .before .before .before .loop in
+    let the-loop-test = c .before .before .before .loop-test in
+    record { fits = low-room (args .code .now) (loop .i) (the-loop-test .taken) (loop .inv .1) }
 
 loop-less : tie.Need-loop-less Inv-loop μ-loop
 loop-less c = search needs
 
 loop-again : tie.Need-loop-again Inv-loop μ-loop
-loop-again c = (omega arith, low-high (c .before .before .before .before .before .before .before .before .args .code .now) (c .before .before .before .before .loop .i) (c .before .before .before .loop-test .taken) (c .before .before .before .before .loop .inv .1) _ (c .before .is-high .ensures) (c .if1 .taken))
+loop-again c =
+    let args = c .before .before .before .before .before .before .before .before .args in
+    let loop = c .before .before .before .before .loop in
+    let the-loop-test = c .before .before .before .loop-test in
+    (omega arith, low-high (args .code .now) (loop .i) (the-loop-test .taken) (loop .inv .1) _ (c .before .is-high .ensures) (c .if1 .taken))
 
 loop-less-2 : tie.Need-loop-less-2 Inv-loop μ-loop
 loop-less-2 c = search needs
 
 loop-again-2 : tie.Need-loop-again-2 Inv-loop μ-loop
-loop-again-2 c = (omega arith, low-plain (c .before .before .before .before .before .before .before .before .args .code .now) (c .before .before .before .before .loop .i) (c .before .before .before .loop-test .taken) (c .before .before .before .before .loop .inv .1) _ (c .before .is-high .ensures) (c .if1 .left))
+loop-again-2 c =
+    let args = c .before .before .before .before .before .before .before .before .args in
+    let loop = c .before .before .before .before .loop in
+    let the-loop-test = c .before .before .before .loop-test in
+    (omega arith, low-plain (args .code .now) (loop .i) (the-loop-test .taken) (loop .inv .1) _ (c .before .is-high .ensures) (c .if1 .left))
 
 returns : tie.Need-returns Inv-loop μ-loop
 returns c = rw (← c .before .before .axes .ensures) (low-all (c .before .before .before .before .before .args .code .now) (c .before .loop .i) (c .loop-test .left) (c .before .loop .inv .1))

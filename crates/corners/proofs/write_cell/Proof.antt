@@ -31,11 +31,18 @@ loop-holds c = (omega arith, columns-none _ _ _ _)
 
 add-axis-of : tie.Need-add-axis-of Inv-loop μ-loop
 unfolding dimensionOf
-add-axis-of c = let s = c .before .before .before .before .before .before .before in omega (arith, c .before .before .axes .ensures ∙ c .before .before .before .checked .ensures, code-dimension (s .args .code .now) (s .pre .passing) .few)
+add-axis-of c =
+    let checked = c .before .before .before .checked in
+    let s = c .before .before .before .before .before .before .before in omega
+    (arith, c .before .before .axes .ensures ∙ checked .ensures, code-dimension (s .args .code .now) (s .pre .passing) .few)
 
 shared-slice-read-axis-of : tie.Need-shared-slice-read-axis-of Inv-loop μ-loop
 unfolding dimensionOf
-shared-slice-read-axis-of c = let s = c .before .before .before .before .before .before .before .before in omega (arith, c .before .before .before .axes .ensures ∙ c .before .before .before .before .checked .ensures, code-room (s .args .code .now) (s .pre .passing))
+shared-slice-read-axis-of c =
+    let checked = c .before .before .before .before .checked in
+    let axes = c .before .before .before .axes in
+    let s = c .before .before .before .before .before .before .before .before in omega
+    (arith, axes .ensures ∙ checked .ensures, code-room (s .args .code .now) (s .pre .passing))
 
 axis-of-requires : tie.Need-axis-of-requires Inv-loop μ-loop
 axis-of-requires c κs = search needs
@@ -45,29 +52,62 @@ size-requires c κs = search needs
 
 line-of-requires : tie.Need-line-of-requires Inv-loop μ-loop
 unfolding dimensionOf
-line-of-requires c κs = record { passing = c .before .before .before .before .before .before .before .before .before .before .before .pre .passing; dimension = c .before .before .before .before .before .before .before .checked .ensures; below = omega (arith, c .before .before .before .before .before .before .axes .ensures ∙ c .before .before .before .before .before .before .before .checked .ensures, c .before .before .before .before .loop-test .taken) }
+line-of-requires c κs =
+    let pre = c .before .before .before .before .before .before .before .before .before .before .before .pre in
+    let checked = c .before .before .before .before .before .before .before .checked in
+    let axes = c .before .before .before .before .before .before .axes in
+    let the-loop-test = c .before .before .before .before .loop-test in
+    record { passing = pre .passing; dimension = checked .ensures; below = omega (arith, axes .ensures ∙ checked .ensures, the-loop-test .taken) }
 
 column-requires : tie.Need-column-requires Inv-loop μ-loop
 unfolding dimensionOf
-column-requires c κs = let s = c .before .before .before .before .before .before .before .before .before .before .before .before in column-ready (s .args .code .now) (s .pre .passing) _ (c .before .before .before .before .before .before .before .axes .ensures ∙ c .before .before .before .before .before .before .before .before .checked .ensures) (c .before .before .before .before .before .before .loop .i) (c .before .before .before .before .before .loop-test .taken) _ (c .before .before .size .ensures ∙ c .before .before .before .axis-of .ensures) (c .line-of .ensures) _ (omega (arith, s .pre .space, c .before .before .before .before .before .before .loop .inv .1 .size))
+column-requires c κs =
+    let checked = c .before .before .before .before .before .before .before .before .checked in
+    let axes = c .before .before .before .before .before .before .before .axes in
+    let loop = c .before .before .before .before .before .before .loop in
+    let the-loop-test = c .before .before .before .before .before .loop-test in
+    let axis-of = c .before .before .before .axis-of in
+    let s = c .before .before .before .before .before .before .before .before .before .before .before .before in column-ready (s .args .code .now) (s .pre .passing) _
+    (axes .ensures ∙ checked .ensures) (loop .i) (the-loop-test .taken) _ (c .before .before .size .ensures ∙ axis-of .ensures) (c .line-of .ensures) _
+    (omega (arith, s .pre .space, loop .inv .1 .size))
 
 add-i : tie.Need-add-i Inv-loop μ-loop
 unfolding dimensionOf
-add-i c = let s = c .before .before .before .before .before .before .before .before .before .before .before .before .before .before .before in omega (arith, c .before .before .before .before .before .before .before .before .before .before .axes .ensures ∙ c .before .before .before .before .before .before .before .before .before .before .before .checked .ensures, code-dimension (s .args .code .now) (s .pre .passing) .few)
+add-i c =
+    let checked = c .before .before .before .before .before .before .before .before .before .before .before .checked in
+    let axes = c .before .before .before .before .before .before .before .before .before .before .axes in
+    let s = c .before .before .before .before .before .before .before .before .before .before .before .before .before .before .before in omega
+    (arith, axes .ensures ∙ checked .ensures, code-dimension (s .args .code .now) (s .pre .passing) .few)
 
 loop-less : tie.Need-loop-less Inv-loop μ-loop
 loop-less c = search needs
 
 loop-again : tie.Need-loop-again Inv-loop μ-loop
 unfolding dimensionOf
-loop-again c = let s = c .before .before .before .before .before .before .before .before .before .before .before .before .before .before .before in (omega (arith, c .before .before .before .before .before .before .before .before .loop-test .taken), cell-next (s .args .code .now) (s .pre .passing) _ (c .before .before .before .before .before .before .before .before .before .before .axes .ensures ∙ c .before .before .before .before .before .before .before .before .before .before .before .checked .ensures) (c .before .before .before .before .before .before .before .before .before .loop .i) (c .before .before .before .before .before .before .before .before .loop-test .taken) _ (c .before .before .before .before .before .size .ensures ∙ c .before .before .before .before .before .before .axis-of .ensures) (c .before .before .before .line-of .ensures) (c .before .before .before .before .before .before .before .before .before .loop .inv .1) (c .before .before .column .ensures))
+loop-again c =
+    let checked = c .before .before .before .before .before .before .before .before .before .before .before .checked in
+    let axes = c .before .before .before .before .before .before .before .before .before .before .axes in
+    let loop = c .before .before .before .before .before .before .before .before .before .loop in
+    let the-loop-test = c .before .before .before .before .before .before .before .before .loop-test in
+    let axis-of = c .before .before .before .before .before .before .axis-of in
+    let size = c .before .before .before .before .before .size in
+    let line-of = c .before .before .before .line-of in
+    let s = c .before .before .before .before .before .before .before .before .before .before .before .before .before .before .before in (
+      omega (arith, the-loop-test .taken),
+      cell-next (s .args .code .now) (s .pre .passing) _ (axes .ensures ∙ checked .ensures) (loop .i) (the-loop-test .taken) _
+          (size .ensures ∙ axis-of .ensures) (line-of .ensures) (loop .inv .1) (c .before .before .column .ensures),
+    )
 
 same-length : tie.Need-same-length Inv-loop μ-loop
 same-length c = c .before .loop .inv .1 .size
 
 returns : tie.Need-returns Inv-loop μ-loop
 unfolding dimensionOf
-returns c = let s = c .before .before .before .before .before .before .before in cell-all (s .args .code .now) (s .pre .passing) _ (c .before .before .axes .ensures ∙ c .before .before .before .checked .ensures) (s .pre .space) (c .before .loop .i) (c .before .loop .inv .0) (c .loop-test .left) (c .before .loop .inv .1)
+returns c =
+    let checked = c .before .before .before .checked in
+    let s = c .before .before .before .before .before .before .before in cell-all (s .args .code .now) (s .pre .passing) _
+    (c .before .before .axes .ensures ∙ checked .ensures) (s .pre .space) (c .before .loop .i) (c .before .loop .inv .0) (c .loop-test .left)
+    (c .before .loop .inv .1)
 
 pub write-cell-spec : {M : Type 1} → statement M
 write-cell-spec =

@@ -63,13 +63,22 @@ negate-requires c κs = search (needs, facing-axis)
 
 cross-outside-requires-2 : tie.Need-cross-outside-requires-2
 cross-outside-requires-2 c κs =
-    let check = c .before .before .before .before .before .before .before .before .before .before .before .before .before .code-check in
-    let passed = c .before .before .before .before .before .before .before .before .before .before .before .before .if1 .left in
-    let dimension = c .before .before .before .before .before .before .before .before .before .before .before .dimension-of .ensures in
-    let axes = c .before .before .before .before .before .before .before .before .before .before .axes .ensures in
-    let facet = c .before .before .before .before .before .before .before .before .before .size .ensures in
-    leaving-first _ (check .ensures) passed dimension axes _ _ _ _ _ facet (c .before .before .before .before .if4 .taken)
-    (c .before .before .before .before .before .before .depth-of .ensures) (c .before .before .before .before .before .split-place .ensures) (c .before .before .before .if5 .taken) (c .before .negate .ensures)
+    let code-check = c .before .before .before .before .before .before .before .before .before .before .before .before .before .code-check in
+    let if1 = c .before .before .before .before .before .before .before .before .before .before .before .before .if1 in
+    let dimension-of = c .before .before .before .before .before .before .before .before .before .before .before .dimension-of in
+    let the-axes = c .before .before .before .before .before .before .before .before .before .before .axes in
+    let size = c .before .before .before .before .before .before .before .before .before .size in
+    let depth-of = c .before .before .before .before .before .before .depth-of in
+    let split-place = c .before .before .before .before .before .split-place in
+    let if4 = c .before .before .before .before .if4 in
+    let if5 = c .before .before .before .if5 in
+    let check = code-check in
+    let passed = if1 .left in
+    let dimension = dimension-of .ensures in
+    let axes = the-axes .ensures in
+    let facet = size .ensures in
+    leaving-first _ (check .ensures) passed dimension axes _ _ _ _ _ facet (if4 .taken)
+    (depth-of .ensures) (split-place .ensures) (if5 .taken) (c .before .negate .ensures)
 
 same-length-2 : tie.Need-same-length-2
 same-length-2 c = search needs
@@ -79,12 +88,20 @@ returns-4 c = search needs
 
 cross-inside-requires : tie.Need-cross-inside-requires
 cross-inside-requires c κs =
-    let check = c .before .before .before .before .before .before .before .before .before .before .code-check in
-    let passed = c .before .before .before .before .before .before .before .before .before .if1 .left in
-    let dimension = c .before .before .before .before .before .before .before .before .dimension-of .ensures in
-    let axes = c .before .before .before .before .before .before .before .axes .ensures in
-    let facet = c .before .before .before .before .before .before .size .ensures in
-    staying _ (check .ensures) passed dimension axes (c .before .before .before .depth-of .ensures) (c .before .before .split-place .ensures) facet (c .before .before .before .before .before .if2 .left) (c .before .before .before .before .if3 .left)
+    let code-check = c .before .before .before .before .before .before .before .before .before .before .code-check in
+    let if1 = c .before .before .before .before .before .before .before .before .before .if1 in
+    let dimension-of = c .before .before .before .before .before .before .before .before .dimension-of in
+    let the-axes = c .before .before .before .before .before .before .before .axes in
+    let size = c .before .before .before .before .before .before .size in
+    let if2 = c .before .before .before .before .before .if2 in
+    let if3 = c .before .before .before .before .if3 in
+    let depth-of = c .before .before .before .depth-of in
+    let check = code-check in
+    let passed = if1 .left in
+    let dimension = dimension-of .ensures in
+    let axes = the-axes .ensures in
+    let facet = size .ensures in
+    staying _ (check .ensures) passed dimension axes (depth-of .ensures) (c .before .before .split-place .ensures) facet (if2 .left) (if3 .left)
     (⊎-elim (λ w z f. w .1 .left f) (λ w z f. w .left z) (c .before .if4 .came))
 
 same-length-3 : tie.Need-same-length-3

@@ -41,7 +41,10 @@ add-out : tie.Need-add-out
 add-out c = let r = c .before .before .before .before .before .before .before .before .before .before .before .pre in omega (arith, leaving-few r, r .place)
 
 slice-write-out : tie.Need-slice-write-out
-slice-write-out c = omega (arith, leaving-at (c .before .before .before .before .before .before .before .before .before .before .before .pre), c .before .out .given, c .before .before .before .before .before .before .if2 .left)
+slice-write-out c =
+    let pre = c .before .before .before .before .before .before .before .before .before .before .before .pre in
+    let if2 = c .before .before .before .before .before .before .if2 in
+    omega (arith, leaving-at (pre), c .before .out .given, if2 .left)
 
 add-carry : tie.Need-add-carry
 add-carry c = omega (arith, leaving-few (c .before .before .before .before .before .before .before .before .before .before .before .before .pre))

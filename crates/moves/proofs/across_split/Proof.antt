@@ -21,7 +21,11 @@ same-length : tie.Need-same-length
 same-length c = search needs
 
 returns : tie.Need-returns
-returns c = split-own _ (c .before .before .before .before .before .before .before .before .pre) (sym (c .before .before .before .before .before .same-sign .ensures) ∙ c .before .before .before .before .if1 .taken) _ (c .before .before .exchange .ensures)
+returns c =
+    let pre = c .before .before .before .before .before .before .before .before .pre in
+    let same-sign = c .before .before .before .before .before .same-sign in
+    let if1 = c .before .before .before .before .if1 in
+    split-own _ (pre) (sym (same-sign .ensures) ∙ if1 .taken) _ (c .before .before .exchange .ensures)
 
 unturn-requires : tie.Need-unturn-requires
 unturn-requires c κs = search needs
@@ -30,7 +34,11 @@ same-length-2 : tie.Need-same-length-2
 same-length-2 c = search needs
 
 returns-2 : tie.Need-returns-2
-returns-2 c = split-against _ (c .before .before .before .before .before .before .before .before .pre) (sym (c .before .before .before .before .before .same-sign .ensures) ∙ c .before .before .before .before .if1 .left) _ (c .before .before .unturn .ensures)
+returns-2 c =
+    let pre = c .before .before .before .before .before .before .before .before .pre in
+    let same-sign = c .before .before .before .before .before .same-sign in
+    let if1 = c .before .before .before .before .if1 in
+    split-against _ (pre) (sym (same-sign .ensures) ∙ if1 .left) _ (c .before .before .unturn .ensures)
 
 pub across-split-spec : {M : Type 1} → statement M
 across-split-spec =

@@ -29,7 +29,10 @@ slice-read-orthant : tie.Need-slice-read-orthant Inv-loop μ-loop
 slice-read-orthant c = omega (arith, c .before .before .before .before .before .pre .1)
 
 flip-requires : tie.Need-flip-requires Inv-loop μ-loop
-flip-requires c κs = (omega (arith, c .before .before .before .before .before .pre .2, c .before .before .before .axis-of .ensures), omega (arith, c .before .before .before .before .before .pre .3, c .before .before .before .axis-of .ensures))
+flip-requires c κs =
+    let pre = c .before .before .before .before .before .pre in
+    let axis-of = c .before .before .before .axis-of in
+    (omega (arith, pre .2, axis-of .ensures), omega (arith, pre .3, axis-of .ensures))
 
 slice-write-buf : tie.Need-slice-write-buf Inv-loop μ-loop
 slice-write-buf c = omega (arith, c .before .before .before .before .before .before .pre .1)
@@ -41,13 +44,27 @@ same-length : tie.Need-same-length Inv-loop μ-loop
 same-length c = simp length-set (c .before .before .before .before .before .loop .inv .2)
 
 returns : tie.Need-returns Inv-loop μ-loop
-returns c = carrying-stopped _ _ _ _ (c .before .before .before .before .before .before .before .before .pre .1) (c .before .before .before .before .before .loop .inv .3) (c .before .before .before .before .before .loop .t - 1) (omega arith) (c .before .before .before .before .before .loop .inv .1) _ _ (c .before .before .before .before .before .before .axis-of .ensures) (c .before .before .flip .ensures) (sym (c .before .same-sign .ensures) ∙ not-true _ (c .if1 .taken)) _ (omega (arith, c .before .before .before .before .before .before .before .before .pre .0))
+returns c =
+    let pre = c .before .before .before .before .before .before .before .before .pre in
+    let axis-of = c .before .before .before .before .before .before .axis-of in
+    let loop = c .before .before .before .before .before .loop in
+    carrying-stopped _ _ _ _ (pre .1) (loop .inv .3) (loop .t - 1) (omega arith) (loop .inv .1) _ _ (axis-of .ensures) (c .before .before .flip .ensures)
+    (sym (c .before .same-sign .ensures) ∙ not-true _ (c .if1 .taken)) _ (omega (arith, pre .0))
 
 loop-less : tie.Need-loop-less Inv-loop μ-loop
 loop-less c = search needs
 
 loop-again : tie.Need-loop-again Inv-loop μ-loop
-loop-again c = (omega arith, omega arith, simp length-set (c .before .before .before .before .before .loop .inv .2), carrying-next _ _ _ _ (c .before .before .before .before .before .before .before .before .pre .1) (c .before .before .before .before .before .loop .inv .3) (c .before .before .before .before .before .loop .t - 1) (omega arith) (c .before .before .before .before .before .loop .inv .1) _ _ (c .before .before .before .before .before .before .axis-of .ensures) (c .before .before .flip .ensures) (sym (c .before .same-sign .ensures) ∙ not-false _ (c .if1 .left)))
+loop-again c =
+    let pre = c .before .before .before .before .before .before .before .before .pre in
+    let axis-of = c .before .before .before .before .before .before .axis-of in
+    let loop = c .before .before .before .before .before .loop in (
+      omega arith,
+      omega arith,
+      simp length-set (loop .inv .2),
+      carrying-next _ _ _ _ (pre .1) (loop .inv .3) (loop .t - 1) (omega arith) (loop .inv .1) _ _
+          (axis-of .ensures) (c .before .before .flip .ensures) (sym (c .before .same-sign .ensures) ∙ not-false _ (c .if1 .left)),
+    )
 
 same-length-2 : tie.Need-same-length-2 Inv-loop μ-loop
 same-length-2 c = c .before .loop .inv .2

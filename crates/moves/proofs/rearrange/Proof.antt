@@ -21,7 +21,11 @@ same-length-2 : tie.Need-same-length-2
 same-length-2 c = search needs
 
 returns-2 : tie.Need-returns-2
-returns-2 c = within-split _ _ _ (c .before .before .before .before .before .before .before .args .buf .now) (c .before .before .before .before .before .if1 .left) (c .before .before .before .before .if2 .taken) (c .before .before .across-split .ensures)
+returns-2 c =
+    let args = c .before .before .before .before .before .before .before .args in
+    let if1 = c .before .before .before .before .before .if1 in
+    let if2 = c .before .before .before .before .if2 in
+    within-split _ _ _ (args .buf .now) (if1 .left) (if2 .taken) (c .before .before .across-split .ensures)
 
 exchange-requires : tie.Need-exchange-requires
 exchange-requires c κs = (omega (arith, c .before .before .if1 .left), omega (arith, c .before .before .before .before .pre .room, c .before .before .before .before .pre .inside))
@@ -30,7 +34,11 @@ same-length-3 : tie.Need-same-length-3
 same-length-3 c = search needs
 
 returns-3 : tie.Need-returns-3
-returns-3 c = within-other _ _ _ (c .before .before .before .before .before .before .before .args .buf .now) (c .before .before .before .before .before .if1 .left) (c .before .before .before .before .if2 .left) _ (c .before .before .exchange .ensures)
+returns-3 c =
+    let args = c .before .before .before .before .before .before .before .args in
+    let if1 = c .before .before .before .before .before .if1 in
+    let if2 = c .before .before .before .before .if2 in
+    within-other _ _ _ (args .buf .now) (if1 .left) (if2 .left) _ (c .before .before .exchange .ensures)
 
 pub rearrange-spec : {M : Type 1} → statement M
 rearrange-spec =

@@ -29,13 +29,23 @@ same-sign-requires : tie.Need-same-sign-requires Inv-loop μ-loop
 same-sign-requires c κs = (c .before .before .before .before .pre .1, c .before .before .before .before .pre .2)
 
 returns : tie.Need-returns Inv-loop μ-loop
-returns c = running-stopped _ _ _ (c .before .before .before .before .loop .inv .2) (c .before .before .before .before .loop .last - 1) (omega arith) (c .before .before .before .before .loop .inv .1) (sym (c .before .same-sign .ensures) ∙ not-true _ (c .if1 .taken)) _ (c .before .before .before .loop-test .taken)
+returns c =
+    let loop = c .before .before .before .before .loop in
+    let the-loop-test = c .before .before .before .loop-test in
+    running-stopped _ _ _ (loop .inv .2) (loop .last - 1) (omega arith) (loop .inv .1) (sym (c .before .same-sign .ensures) ∙ not-true _ (c .if1 .taken)) _
+    (the-loop-test .taken)
 
 loop-less : tie.Need-loop-less Inv-loop μ-loop
 loop-less c = search needs
 
 loop-again : tie.Need-loop-again Inv-loop μ-loop
-loop-again c = (omega arith, omega arith, running-next _ _ _ (c .before .before .before .before .loop .inv .2) (c .before .before .before .before .loop .last - 1) (omega arith) (c .before .before .before .before .loop .inv .1) (sym (c .before .same-sign .ensures) ∙ not-false _ (c .if1 .left)))
+loop-again c =
+    let loop = c .before .before .before .before .loop in (
+      omega arith,
+      omega arith,
+      running-next _ _ _ (loop .inv .2) (loop .last - 1) (omega arith) (loop .inv .1)
+          (sym (c .before .same-sign .ensures) ∙ not-false _ (c .if1 .left)),
+    )
 
 returns-2 : tie.Need-returns-2 Inv-loop μ-loop
 returns-2 c = running-all _ _ _ (c .before .loop .inv .2) _ (c .before .loop .inv .0) (c .loop-test .left)

@@ -23,13 +23,22 @@ sub-n : tie.Need-sub-n Inv-loop μ-loop
 sub-n c = search needs
 
 mul-n : tie.Need-mul-n Inv-loop μ-loop
-mul-n c = let q = number-times (c .before .loop .n) (c .before .before .before .args .d - c .before .loop .i) (rw (c .before .loop .inv .1) (number-few (c .before .before .before .args .d) (c .before .before .before .args .root .now) (c .before .loop .i) (c .before .before .before .pre .0) (omega arith))) (omega arith) in omega arith
+mul-n c =
+    let args = c .before .before .before .args in
+    let pre = c .before .before .before .pre in
+    let q = number-times (c .before .loop .n) (args .d - c .before .loop .i)
+    (rw (c .before .loop .inv .1) (number-few (args .d) (args .root .now) (c .before .loop .i) (pre .0) (omega arith))) (omega arith) in omega arith
 
 smaller-requires : tie.Need-smaller-requires Inv-loop μ-loop
 smaller-requires c κs = search needs
 
 add-n : tie.Need-add-n Inv-loop μ-loop
-add-n c = let q = number-times (c .before .before .loop .n) (c .before .before .before .before .args .d - c .before .before .loop .i) (rw (c .before .before .loop .inv .1) (number-few (c .before .before .before .before .args .d) (c .before .before .before .before .args .root .now) (c .before .before .loop .i) (c .before .before .before .before .pre .0) (omega arith))) (omega arith) in omega (arith, c .smaller .ensures, smaller-few (c .before .before .before .before .args .root .now) (c .before .before .loop .i) (c .before .before .before .before .args .d))
+add-n c =
+    let args = c .before .before .before .before .args in
+    let pre = c .before .before .before .before .pre in
+    let loop = c .before .before .loop in
+    let q = number-times (loop .n) (args .d - loop .i) (rw (loop .inv .1) (number-few (args .d) (args .root .now) (loop .i) (pre .0) (omega arith)))
+    (omega arith) in omega (arith, c .smaller .ensures, smaller-few (args .root .now) (loop .i) (args .d))
 
 add-i : tie.Need-add-i Inv-loop μ-loop
 add-i c = search needs
@@ -38,10 +47,16 @@ loop-less : tie.Need-loop-less Inv-loop μ-loop
 loop-less c = search needs
 
 loop-again : tie.Need-loop-again Inv-loop μ-loop
-loop-again c = (omega arith, rw add-one (number-more (c .before .before .before .before .args .d) (c .before .before .before .before .args .root .now) (c .before .before .loop .i) _ _ (c .before .before .loop .inv .1) (c .smaller .ensures)))
+loop-again c =
+    let args = c .before .before .before .before .args in
+    let loop = c .before .before .loop in
+    (omega arith, rw add-one (number-more (args .d) (args .root .now) (loop .i) _ _ (loop .inv .1) (c .smaller .ensures)))
 
 returns : tie.Need-returns Inv-loop μ-loop
-returns c = let e : c .before .loop .i ≡ c .before .before .before .args .d = omega (arith, c .loop-test .left, c .before .loop .inv .0) in c .before .loop .inv .1 ∙ ap (numberIn (c .before .before .before .args .d) (c .before .before .before .args .root .now)) e
+returns c =
+    let args = c .before .before .before .args in
+    let e : c .before .loop .i ≡ args .d = omega (arith, c .loop-test .left, c .before .loop .inv .0) in c .before .loop .inv .1 ∙ ap
+    (numberIn (args .d) (args .root .now)) e
 
 pub number-spec : {M : Type 1} → statement M
 number-spec =

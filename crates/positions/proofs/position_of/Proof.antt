@@ -33,30 +33,82 @@ greatest-depth-requires c κs = search needs
 
 sub-power : tie.Need-sub-power
 unfolding dimensionOf depthOf
-sub-power c = let h = place-deep (c .before .before .before .before .before .before .before .args .code .now) noEntries (c .before .before .before .before .before .before .before .pre) _ _ (c .before .before .before .axes .ensures ∙ c .before .before .before .before .checked .ensures) (c .before .size .ensures) (omega arith) in omega (arith, h, c .greatest-depth .ensures, ap greatestDepth (c .before .before .before .axes .ensures))
+sub-power c =
+    let args = c .before .before .before .before .before .before .before .args in
+    let pre = c .before .before .before .before .before .before .before .pre in
+    let the-checked = c .before .before .before .before .checked in
+    let axes = c .before .before .before .axes in
+    let h = place-deep (args .code .now) noEntries (pre) _ _ (axes .ensures ∙ the-checked .ensures) (c .before .size .ensures) (omega arith) in omega
+    (arith, h, c .greatest-depth .ensures, ap greatestDepth (axes .ensures))
 
 power-requires : tie.Need-power-requires
 unfolding dimensionOf depthOf
-power-requires c κs = let h = place-small (c .before .before .before .before .before .before .before .args .code .now) noEntries (c .before .before .before .before .before .before .before .pre) _ _ (c .before .before .before .axes .ensures ∙ c .before .before .before .before .checked .ensures) (c .before .size .ensures) (omega arith) in omega (arith, h, c .greatest-depth .ensures, ap greatestDepth (c .before .before .before .axes .ensures))
+power-requires c κs =
+    let args = c .before .before .before .before .before .before .before .args in
+    let pre = c .before .before .before .before .before .before .before .pre in
+    let the-checked = c .before .before .before .before .checked in
+    let axes = c .before .before .before .axes in
+    let h = place-small (args .code .now) noEntries (pre) _ _ (axes .ensures ∙ the-checked .ensures) (c .before .size .ensures) (omega arith) in omega
+    (arith, h, c .greatest-depth .ensures, ap greatestDepth (axes .ensures))
 
 entries-of-requires : tie.Need-entries-of-requires
 unfolding dimensionOf depthOf
-entries-of-requires c κs = (place-two (c .before .before .before .before .before .before .before .before .args .code .now) noEntries (c .before .before .before .before .before .before .before .before .pre) _ _ (c .before .before .before .before .axes .ensures ∙ c .before .before .before .before .before .checked .ensures) (c .before .before .size .ensures) (omega arith), few (c .before .before .before .before .before .before .before .before .args .code .now) noEntries (c .before .before .before .before .before .before .before .before .pre) _ _ (c .before .before .before .before .axes .ensures ∙ c .before .before .before .before .before .checked .ensures) (c .before .before .size .ensures) (omega arith), place-copy (c .before .before .before .before .before .before .before .before .args .code .now) noEntries (c .before .before .before .before .before .before .before .before .pre) _ _ (c .before .before .before .before .axes .ensures ∙ c .before .before .before .before .before .checked .ensures) (c .before .before .size .ensures) (omega arith) .0)
+entries-of-requires c κs =
+    let args = c .before .before .before .before .before .before .before .before .args in
+    let pre = c .before .before .before .before .before .before .before .before .pre in
+    let the-checked = c .before .before .before .before .before .checked in
+    let axes = c .before .before .before .before .axes in
+    let size = c .before .before .size in (
+      place-two (args .code .now) noEntries (pre) _ _ (axes .ensures ∙ the-checked .ensures) (size .ensures) (omega arith),
+      few (args .code .now) noEntries (pre) _ _
+          (axes .ensures ∙ the-checked .ensures) (size .ensures) (omega arith),
+      place-copy (args .code .now) noEntries (pre) _ _ (axes .ensures ∙ the-checked .ensures)
+          (size .ensures) (omega arith) .0,
+    )
 
 walk-requires : tie.Need-walk-requires
 unfolding dimensionOf depthOf
-walk-requires c κs = rw (c .entries-of .ensures, ← c .before .before .before .before .before .axes .ensures) (place-ready (c .before .before .before .before .before .before .before .before .before .args .code .now) noEntries (c .before .before .before .before .before .before .before .before .before .pre) _ _ (c .before .before .before .before .before .axes .ensures ∙ c .before .before .before .before .before .before .checked .ensures) (c .before .before .before .size .ensures) (omega arith) _ (c .before .power .ensures ∙ ap (λ (n : ℕ). 2 ^ (n - c .before .before .before .size .result)) (c .before .before .greatest-depth .ensures ∙ ap greatestDepth (sym (c .before .before .before .before .before .axes .ensures)))))
+walk-requires c κs =
+    let args = c .before .before .before .before .before .before .before .before .before .args in
+    let pre = c .before .before .before .before .before .before .before .before .before .pre in
+    let the-checked = c .before .before .before .before .before .before .checked in
+    let axes = c .before .before .before .before .before .axes in
+    let size = c .before .before .before .size in
+    rw (c .entries-of .ensures, ← axes .ensures)
+    (place-ready (args .code .now) noEntries (pre) _ _ (axes .ensures ∙ the-checked .ensures) (size .ensures) (omega arith) _
+    (c .before .power .ensures ∙ ap (λ (n : ℕ). 2 ^ (n - size .result)) (c .before .before .greatest-depth .ensures ∙ ap greatestDepth (sym (axes .ensures)))))
 
 slice-aggregate-number : tie.Need-slice-aggregate-number
 slice-aggregate-number c = search needs
 
 number-requires : tie.Need-number-requires
 unfolding dimensionOf depthOf
-number-requires c κs = (few (c .before .before .before .before .before .before .before .before .before .before .before .args .code .now) noEntries (c .before .before .before .before .before .before .before .before .before .before .before .pre) _ _ (c .before .before .before .before .before .before .before .axes .ensures ∙ c .before .before .before .before .before .before .before .before .checked .ensures) (c .before .before .before .before .before .size .ensures) (omega arith), place-room (c .before .before .before .before .before .before .before .before .before .before .before .args .code .now) noEntries (c .before .before .before .before .before .before .before .before .before .before .before .pre) _ _ (c .before .before .before .before .before .before .before .axes .ensures ∙ c .before .before .before .before .before .before .before .before .checked .ensures) (c .before .before .before .before .before .size .ensures) (omega arith) _ _ _ (rw (c .before .before .entries-of .ensures, ← c .before .before .before .before .before .before .before .axes .ensures) at (c .before .walk .ensures)))
+number-requires c κs =
+    let args = c .before .before .before .before .before .before .before .before .before .before .before .args in
+    let pre = c .before .before .before .before .before .before .before .before .before .before .before .pre in
+    let the-checked = c .before .before .before .before .before .before .before .before .checked in
+    let axes = c .before .before .before .before .before .before .before .axes in
+    let size = c .before .before .before .before .before .size in (
+      few (args .code .now) noEntries (pre) _ _ (axes .ensures ∙ the-checked .ensures) (size .ensures) (omega arith),
+      place-room (args .code .now) noEntries (pre) _ _
+          (axes .ensures ∙ the-checked .ensures) (size .ensures) (omega arith) _ _ _
+          (rw (c .before .before .entries-of .ensures, ← axes .ensures) at (c .before .walk .ensures)),
+    )
 
 returns : tie.Need-returns
 unfolding dimensionOf depthOf
-returns c = place-is (c .before .before .before .before .before .before .before .before .before .before .before .before .args .code .now) noEntries (c .before .before .before .before .before .before .before .before .before .before .before .before .pre) _ _ (c .before .before .before .before .before .before .before .before .axes .ensures ∙ c .before .before .before .before .before .before .before .before .before .checked .ensures) (c .before .before .before .before .before .before .size .ensures) (omega arith) _ _ _ (rw (c .before .before .before .entries-of .ensures, ← c .before .before .before .before .before .before .before .before .axes .ensures) at (c .before .before .walk .ensures)) _ _ (c .number .ensures) (c .before .before .before .before .power .ensures ∙ ap (λ (n : ℕ). 2 ^ (n - c .before .before .before .before .before .before .size .result)) (c .before .before .before .before .before .greatest-depth .ensures ∙ ap greatestDepth (sym (c .before .before .before .before .before .before .before .before .axes .ensures))))
+returns c =
+    let args = c .before .before .before .before .before .before .before .before .before .before .before .before .args in
+    let pre = c .before .before .before .before .before .before .before .before .before .before .before .before .pre in
+    let the-checked = c .before .before .before .before .before .before .before .before .before .checked in
+    let axes = c .before .before .before .before .before .before .before .before .axes in
+    let size = c .before .before .before .before .before .before .size in
+    let greatest-depth = c .before .before .before .before .before .greatest-depth in
+    let power = c .before .before .before .before .power in
+    let entries-of = c .before .before .before .entries-of in
+    place-is (args .code .now) noEntries (pre) _ _ (axes .ensures ∙ the-checked .ensures) (size .ensures) (omega arith) _ _ _
+    (rw (entries-of .ensures, ← axes .ensures) at (c .before .before .walk .ensures)) _ _ (c .number .ensures)
+    (power .ensures ∙ ap (λ (n : ℕ). 2 ^ (n - size .result)) (greatest-depth .ensures ∙ ap greatestDepth (sym (axes .ensures))))
 
 pub position-of-spec : {M : Type 1} → statement M
 position-of-spec =

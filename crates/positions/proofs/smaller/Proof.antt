@@ -29,7 +29,10 @@ shared-slice-read-if1-2 : tie.Need-shared-slice-read-if1-2 Inv-loop μ-loop
 shared-slice-read-if1-2 c = search needs
 
 add-n : tie.Need-add-n Inv-loop μ-loop
-add-n c = omega (arith, smaller-few (c .before .before .before .before .before .args .root .now) (c .before .before .before .before .before .args .i) (c .before .before .before .before .loop .j), c .before .before .before .before .loop .inv .2)
+add-n c =
+    let args = c .before .before .before .before .before .args in
+    let loop = c .before .before .before .before .loop in
+    omega (arith, smaller-few (args .root .now) (args .i) (loop .j), loop .inv .2)
 
 add-j-2 : tie.Need-add-j-2 Inv-loop μ-loop
 add-j-2 c = search needs
@@ -38,17 +41,22 @@ loop-less : tie.Need-loop-less Inv-loop μ-loop
 loop-less c = search needs
 
 loop-again : tie.Need-loop-again Inv-loop μ-loop
-loop-again c = (
-  omega arith,
-  omega arith,
-  rw add-one (⊎-elim
-      (λ w. w .1 ∙ ap (λ (k : ℕ). k + 1) (c .before .before .before .before .loop .inv .2) ∙ sym (smaller-more (c .before .before .before .before .before .args .root .now) (c .before .before .before .before .before .args .i) (c .before .before .before .before .loop .j) (c .before .before .before .before .loop .inv .0) (w .0 .taken)))
-      (λ w. w .1 ∙ c .before .before .before .before .loop .inv .2 ∙ sym (smaller-same (c .before .before .before .before .before .args .root .now) (c .before .before .before .before .before .args .i) (c .before .before .before .before .loop .j) (c .before .before .before .before .loop .inv .0) (w .0 .left)))
-      (c .if1 .came)),
-)
+loop-again c =
+    let args = c .before .before .before .before .before .args in
+    let loop = c .before .before .before .before .loop in (
+      omega arith,
+      omega arith,
+      rw add-one (⊎-elim
+          (λ w. w .1 ∙ ap (λ (k : ℕ). k + 1) (loop .inv .2) ∙ sym (smaller-more (args .root .now) (args .i) (loop .j) (loop .inv .0) (w .0 .taken)))
+          (λ w. w .1 ∙ loop .inv .2 ∙ sym (smaller-same (args .root .now) (args .i) (loop .j) (loop .inv .0) (w .0 .left)))
+          (c .if1 .came)),
+    )
 
 returns : tie.Need-returns Inv-loop μ-loop
-returns c = let e : c .before .loop .j ≡ c .before .before .args .d = omega (arith, c .loop-test .left, c .before .loop .inv .1) in c .before .loop .inv .2 ∙ ap (smallerIn (c .before .before .args .root .now) (c .before .before .args .i)) e
+returns c =
+    let args = c .before .before .args in
+    let e : c .before .loop .j ≡ args .d = omega (arith, c .loop-test .left, c .before .loop .inv .1) in c .before .loop .inv .2 ∙ ap
+    (smallerIn (args .root .now) (args .i)) e
 
 pub smaller-spec : {M : Type 1} → statement M
 smaller-spec =

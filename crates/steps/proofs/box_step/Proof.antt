@@ -17,7 +17,16 @@ axes-requires : tie.Need-axes-requires
 axes-requires c κs = search needs
 
 orthant-of-requires : tie.Need-orthant-of-requires
-orthant-of-requires c κs = rw (c .before .axes .ensures) (omega (arith, (axes-range (c .before .before .before .before .args .dim)) .two), axes-range (c .before .before .before .before .args .dim) .few, omega (arith, code-room (axesOf (c .before .before .before .before .args .dim)) (c .before .before .before .before .args .depth) (c .before .before .before .before .args .buf .now) (c .before .before .before .before .pre .0)), c .before .before .before .before .pre .1)
+orthant-of-requires c κs =
+    let args = c .before .before .before .before .args in
+    let pre = c .before .before .before .before .pre in
+    rw (c .before .axes .ensures) (
+      omega (arith, (axes-range (args .dim)) .two),
+      axes-range (args .dim) .few,
+      omega
+          (arith, code-room (axesOf (args .dim)) (args .depth) (args .buf .now) (pre .0)),
+      pre .1,
+    )
 
 add-at : tie.Need-add-at
 add-at c = omega (arith, c .before .before .axes .ensures, (axes-range (c .before .before .before .before .before .args .dim)) .few)
@@ -26,16 +35,31 @@ box-depth-requires : tie.Need-box-depth-requires
 box-depth-requires c κs = search needs
 
 add-at-2 : tie.Need-add-at-2
-add-at-2 c = omega (arith, c .before .before .before .axes .ensures, c .box-depth .ensures, (axes-range (c .before .before .before .before .before .before .args .dim)) .few, box-small (axesOf (c .before .before .before .before .before .before .args .dim)) (c .before .before .before .before .before .before .args .depth) (axes-range (c .before .before .before .before .before .before .args .dim)))
+add-at-2 c =
+    let args = c .before .before .before .before .before .before .args in
+    let axes = c .before .before .before .axes in
+    omega (arith, axes .ensures, c .box-depth .ensures, (axes-range (args .dim)) .few, box-small (axesOf (args .dim)) (args .depth) (axes-range (args .dim)))
 
 slice-write-buf : tie.Need-slice-write-buf
-slice-write-buf c = rw (c .before .before .before .axes .ensures, c .box-depth .ensures) (box-room (axesOf (c .before .before .before .before .before .before .args .dim)) (c .before .before .before .before .before .before .args .depth) (omega (arith, (axes-range (c .before .before .before .before .before .before .args .dim)) .two)) (c .before .before .before .before .before .before .args .buf .now) (sym (c .before .before .before .before .before .before .pre .2) ∙ c .before .before .before .before .if1 .left) (c .before .before .before .before .before .before .pre .0))
+slice-write-buf c =
+    let args = c .before .before .before .before .before .before .args in
+    let pre = c .before .before .before .before .before .before .pre in
+    let if1 = c .before .before .before .before .if1 in
+    let axes = c .before .before .before .axes in
+    rw (axes .ensures, c .box-depth .ensures)
+    (box-room (axesOf (args .dim)) (args .depth) (omega (arith, (axes-range (args .dim)) .two)) (args .buf .now) (sym (pre .2) ∙ if1 .left) (pre .0))
 
 same-length : tie.Need-same-length
 same-length c = search needs
 
 returns-2 : tie.Need-returns-2
-returns-2 c = box-new (axesOf (c .before .before .before .before .before .before .args .dim)) (c .before .before .before .before .before .before .args .depth) (omega (arith, (axes-range (c .before .before .before .before .before .before .args .dim)) .two)) _ (sym (c .before .before .before .before .before .before .pre .2) ∙ c .before .before .before .before .if1 .left) _ (c .before .orthant-of .ensures ∙ rw (c .before .before .before .axes .ensures) refl) _ (rw (c .before .before .before .axes .ensures, c .box-depth .ensures) refl)
+returns-2 c =
+    let args = c .before .before .before .before .before .before .args in
+    let pre = c .before .before .before .before .before .before .pre in
+    let if1 = c .before .before .before .before .if1 in
+    let axes = c .before .before .before .axes in
+    box-new (axesOf (args .dim)) (args .depth) (omega (arith, (axes-range (args .dim)) .two)) _ (sym (pre .2) ∙ if1 .left) _
+    (c .before .orthant-of .ensures ∙ rw (axes .ensures) refl) _ (rw (axes .ensures, c .box-depth .ensures) refl)
 
 pub box-step-spec : {M : Type 1} → statement M
 box-step-spec =

@@ -12,16 +12,35 @@ use Rattle.steps.proofs.step_in.Tie as tie
 
 turn-step-requires : tie.Need-turn-step-requires
 unfolding nameIn
-turn-step-requires c κs = let r = split-range (axesOf (c .before .before .args .dim)) (c .before .before .args .depth) (omega (arith, (axes-range (c .before .before .args .dim)) .two)) in (omega (arith, r .0, c .before .before .pre .2), omega (arith, r .1, c .before .before .pre .2, code-room (axesOf (c .before .before .args .dim)) (c .before .before .args .depth) (c .before .before .args .buf .now) (c .before .before .pre .0)), first-axis (axesOf (c .before .before .args .dim)) (c .before .before .args .buf .now) (omega (arith, (axes-range (c .before .before .args .dim)) .two)) (c .before .before .pre .1 .signed))
+turn-step-requires c κs =
+    let args = c .before .before .args in
+    let pre = c .before .before .pre in
+    let r = split-range (axesOf (args .dim)) (args .depth) (omega (arith, (axes-range (args .dim)) .two)) in (
+      omega (arith, r .0, pre .2),
+      omega (arith, r .1, pre .2, code-room (axesOf (args .dim)) (args .depth) (args .buf .now) (pre .0)),
+      first-axis (axesOf (args .dim))
+          (args .buf .now) (omega (arith, (axes-range (args .dim)) .two)) (pre .1 .signed),
+    )
 
 box-step-requires : tie.Need-box-step-requires
-box-step-requires c κs = let t = turned-ready (axesOf (c .before .before .before .before .before .before .args .dim)) (c .before .before .before .before .before .before .args .depth) (c .before .before .before .before .before .before .args .which) (omega (arith, (axes-range (c .before .before .before .before .before .before .args .dim)) .two)) (c .before .before .before .before .before .before .args .buf .now) (c .before .before .before .before .before .before .pre .0) (omega (arith, (axes-range (c .before .before .before .before .before .before .args .dim)) .few)) (c .before .before .before .before .before .before .pre .1) in rw (c .before .before .before .turn-step .ensures, c .before .before .before .before .before .before .pre .2) (t .0, t .1, refl)
+box-step-requires c κs =
+    let args = c .before .before .before .before .before .before .args in
+    let pre = c .before .before .before .before .before .before .pre in
+    let turn-step = c .before .before .before .turn-step in
+    let t = turned-ready (axesOf (args .dim)) (args .depth) (args .which) (omega (arith, (axes-range (args .dim)) .two)) (args .buf .now) (pre .0)
+    (omega (arith, (axes-range (args .dim)) .few)) (pre .1) in rw (turn-step .ensures, pre .2) (t .0, t .1, refl)
 
 same-length : tie.Need-same-length
 same-length c = search needs
 
 returns : tie.Need-returns
-returns c = rw (c .before .before .box-step .ensures, c .before .before .before .before .before .before .turn-step .ensures, c .before .before .before .before .before .before .before .before .before .pre .2) (steps-to (axesOf (c .before .before .before .before .before .before .before .before .before .args .dim)) (c .before .before .before .before .before .before .before .before .before .args .depth) (c .before .before .before .before .before .before .before .before .before .args .which) (omega (arith, (axes-range (c .before .before .before .before .before .before .before .before .before .args .dim)) .two)) (c .before .before .before .before .before .before .before .before .before .args .buf .now) (c .before .before .before .before .before .before .before .before .before .pre .0) (omega (arith, (axes-range (c .before .before .before .before .before .before .before .before .before .args .dim)) .few)) (c .before .before .before .before .before .before .before .before .before .pre .1))
+returns c =
+    let pre = c .before .before .before .before .before .before .before .before .before .pre in
+    let args = c .before .before .before .before .before .before .before .before .before .args in
+    let turn-step = c .before .before .before .before .before .before .turn-step in
+    rw (c .before .before .box-step .ensures, turn-step .ensures, pre .2)
+    (steps-to (axesOf (args .dim)) (args .depth) (args .which) (omega (arith, (axes-range (args .dim)) .two)) (args .buf .now) (pre .0)
+    (omega (arith, (axes-range (args .dim)) .few)) (pre .1))
 
 pub step-in-spec : {M : Type 1} → statement M
 step-in-spec = tie.close (tie.spec turn-step-requires box-step-requires same-length returns)

@@ -20,7 +20,11 @@ same-length : tie.Need-same-length
 same-length c = search needs
 
 returns-2 : tie.Need-returns-2
-returns-2 c = c .before .before .turn .ensures ∙ step-turned (c .before .before .before .before .before .before .args .k) (c .before .before .before .before .before .before .args .which) (c .before .before .before .before .before .before .args .buf .now) (c .before .before .before .before .if1 .left) (c .before .before .before .before .before .before .pre .0)
+returns-2 c =
+    let args = c .before .before .before .before .before .before .args in
+    let pre = c .before .before .before .before .before .before .pre in
+    let if1 = c .before .before .before .before .if1 in
+    c .before .before .turn .ensures ∙ step-turned (args .k) (args .which) (args .buf .now) (if1 .left) (pre .0)
 
 pub turn-step-spec : {M : Type 1} → statement M
 turn-step-spec = tie.close (tie.spec returns sub-turn turn-requires same-length returns-2)

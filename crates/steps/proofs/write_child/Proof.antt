@@ -18,19 +18,32 @@ add-out : tie.Need-add-out
 add-out c = record { fits = child-byte (c .before .before .before .before .before .before .before .pre) }
 
 slice-write-out : tie.Need-slice-write-out
-slice-write-out c = omega (arith, ap length (c .before .before .before .copy-front .ensures), child-copied (c .before .before .before .before .before .before .before .pre), child-two (c .before .before .before .before .before .before .before .pre), child-fits (c .before .before .before .before .before .before .before .pre))
+slice-write-out c =
+    let pre = c .before .before .before .before .before .before .before .pre in
+    let copy-front = c .before .before .before .copy-front in
+    omega (arith, ap length (copy-front .ensures), child-copied (pre), child-two (pre), child-fits (pre))
 
 split-place-requires : tie.Need-split-place-requires
 split-place-requires c κs = search needs
 
 step-in-requires : tie.Need-step-in-requires
-step-in-requires c κs = let r = child-ready (c .before .before .before .before .before .before .before .before .before .pre) _ in rw (c .before .before .before .before .before .copy-front .ensures) (r .0, r .1, c .split-place .ensures)
+step-in-requires c κs =
+    let pre = c .before .before .before .before .before .before .before .before .before .pre in
+    let copy-front = c .before .before .before .before .before .copy-front in
+    let r = child-ready (pre) _ in rw (copy-front .ensures) (r .0, r .1, c .split-place .ensures)
 
 same-length : tie.Need-same-length
-same-length c = c .before .before .step-in .ensures .size ∙ (simp length-set (ap length (c .before .before .before .before .before .before .before .before .copy-front .ensures) ∙ child-copied (c .before .before .before .before .before .before .before .before .before .before .before .before .pre)))
+same-length c =
+    let pre = c .before .before .before .before .before .before .before .before .before .before .before .before .pre in
+    let copy-front = c .before .before .before .before .before .before .before .before .copy-front in
+    c .before .before .step-in .ensures .size ∙ (simp length-set (ap length (copy-front .ensures) ∙ child-copied (pre)))
 
 returns : tie.Need-returns
-returns c = child-written (c .before .before .before .before .before .before .before .before .before .before .before .before .pre) (c .before .before .before .before .before .before .before .before .before .before .before .before .args .which) _ _ (child-depth (c .before .before .before .before .before .before .before .before .before .before .before .before .pre)) (rw (c .before .before .before .before .before .before .before .before .copy-front .ensures) at (c .before .before .step-in .ensures))
+returns c =
+    let pre = c .before .before .before .before .before .before .before .before .before .before .before .before .pre in
+    let args = c .before .before .before .before .before .before .before .before .before .before .before .before .args in
+    let copy-front = c .before .before .before .before .before .before .before .before .copy-front in
+    child-written (pre) (args .which) _ _ (child-depth (pre)) (rw (copy-front .ensures) at (c .before .before .step-in .ensures))
 
 pub write-child-spec : {M : Type 1} → statement M
 write-child-spec =

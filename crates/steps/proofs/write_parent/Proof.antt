@@ -41,7 +41,10 @@ add-copy-front-2 : tie.Need-add-copy-front-2
 add-copy-front-2 c = omega (arith, (counted _ _ _ _ (c .before .before .axes .ensures) (c .before .box-depth .ensures)), parent-few (c .before .before .before .before .before .pre))
 
 copy-front-requires : tie.Need-copy-front-requires
-copy-front-requires c κs = rw (counted _ _ _ _ (c .before .before .before .axes .ensures) (c .before .before .box-depth .ensures)) (parent-four (c .before .before .before .before .before .before .pre), parent-few (c .before .before .before .before .before .before .pre), parent-front (c .before .before .before .before .before .before .pre), c .before .before .before .before .before .before .pre .room)
+copy-front-requires c κs =
+    let pre = c .before .before .before .before .before .before .pre in
+    let axes = c .before .before .before .axes in
+    rw (counted _ _ _ _ (axes .ensures) (c .before .before .box-depth .ensures)) (parent-four (pre), parent-few (pre), parent-front (pre), pre .room)
 
 shared-slice-read-out : tie.Need-shared-slice-read-out
 shared-slice-read-out c = omega (arith, parent-two (c .before .before .before .before .before .before .before .before .before .before .pre))
@@ -52,19 +55,42 @@ sub-out c = omega (arith, c .before .before .before .before .before .before .bef
 
 slice-write-out : tie.Need-slice-write-out
 unfolding codeLength
-slice-write-out c = omega (arith, ap length (c .before .before .before .copy-front .ensures), parent-size (c .before .before .before .before .before .before .before .before .before .before .pre) _ (counted _ _ _ _ (c .before .before .before .before .before .before .before .axes .ensures) (c .before .before .before .before .before .before .box-depth .ensures)), c .before .before .before .before .before .before .before .before .before .before .pre .room)
+slice-write-out c =
+    let pre = c .before .before .before .before .before .before .before .before .before .before .pre in
+    let axes = c .before .before .before .before .before .before .before .axes in
+    let box-depth = c .before .before .before .before .before .before .box-depth in
+    let copy-front = c .before .before .before .copy-front in
+    omega (arith, ap length (copy-front .ensures), parent-size (pre) _ (counted _ _ _ _ (axes .ensures) (box-depth .ensures)), pre .room)
 
 sub-unstep : tie.Need-sub-unstep
-sub-unstep c = omega (arith, split-is _ _ _ _ (c .before .before .before .before .before .before .before .before .axes .ensures) (c .before .before .before .before .before .before .before .box-depth .ensures), parent-split (c .before .before .before .before .before .before .before .before .before .before .before .pre))
+sub-unstep c =
+    let pre = c .before .before .before .before .before .before .before .before .before .before .before .pre in
+    let axes = c .before .before .before .before .before .before .before .before .axes in
+    let box-depth = c .before .before .before .before .before .before .before .box-depth in
+    omega (arith, split-is _ _ _ _ (axes .ensures) (box-depth .ensures), parent-split (pre))
 
 unstep-requires : tie.Need-unstep-requires
-unstep-requires c κs = rw (c .before .before .before .before .copy-front .ensures) (parent-ready (c .before .before .before .before .before .before .before .before .before .before .before .pre) _ _ _ (counted _ _ _ _ (c .before .before .before .before .before .before .before .before .axes .ensures) (c .before .before .before .before .before .before .before .box-depth .ensures)) (ap (λ (k : ℕ). k - 1) (split-is _ _ _ _ (c .before .before .before .before .before .before .before .before .axes .ensures) (c .before .before .before .before .before .before .before .box-depth .ensures))))
+unstep-requires c κs =
+    let pre = c .before .before .before .before .before .before .before .before .before .before .before .pre in
+    let axes = c .before .before .before .before .before .before .before .before .axes in
+    let box-depth = c .before .before .before .before .before .before .before .box-depth in
+    let copy-front = c .before .before .before .before .copy-front in
+    rw (copy-front .ensures) (parent-ready (pre) _ _ _ (counted _ _ _ _ (axes .ensures) (box-depth .ensures))
+    (ap (λ (k : ℕ). k - 1) (split-is _ _ _ _ (axes .ensures) (box-depth .ensures))))
 
 same-length : tie.Need-same-length
 same-length c = c .before .out2 .given ∙ simp length-set (c .before .before .before .before .before .before .out .given)
 
 returns : tie.Need-returns
-returns c = parent-written (c .before .before .before .before .before .before .before .before .before .before .before .before .before .before .pre) _ _ _ _ _ _ (counted _ _ _ _ (c .before .before .before .before .before .before .before .before .before .before .before .axes .ensures) (c .before .before .before .before .before .before .before .before .before .before .box-depth .ensures)) (parent-byte (c .before .before .before .before .before .before .before .before .before .before .before .before .before .before .pre)) (ap (λ (k : ℕ). k - 1) (split-is _ _ _ _ (c .before .before .before .before .before .before .before .before .before .before .before .axes .ensures) (c .before .before .before .before .before .before .before .before .before .before .box-depth .ensures))) (rw (c .before .before .before .before .before .before .before .before .before .before .before .axes .ensures, c .before .before .before .before .before .before .before .before .before .before .box-depth .ensures) at (c .before .before .before .before .before .before .before .before .before .own-of .ensures)) (rw (c .before .before .before .before .before .before .before .copy-front .ensures) at (c .before .before .unstep .ensures))
+returns c =
+    let pre = c .before .before .before .before .before .before .before .before .before .before .before .before .before .before .pre in
+    let axes = c .before .before .before .before .before .before .before .before .before .before .before .axes in
+    let box-depth = c .before .before .before .before .before .before .before .before .before .before .box-depth in
+    let own-of = c .before .before .before .before .before .before .before .before .before .own-of in
+    let copy-front = c .before .before .before .before .before .before .before .copy-front in
+    parent-written (pre) _ _ _ _ _ _ (counted _ _ _ _ (axes .ensures) (box-depth .ensures)) (parent-byte (pre))
+    (ap (λ (k : ℕ). k - 1) (split-is _ _ _ _ (axes .ensures) (box-depth .ensures))) (rw (axes .ensures, box-depth .ensures) at (own-of .ensures))
+    (rw (copy-front .ensures) at (c .before .before .unstep .ensures))
 
 pub write-parent-spec : {M : Type 1} → statement M
 write-parent-spec =

@@ -12,7 +12,9 @@ twelfths-requires : tie.Need-twelfths-requires
 twelfths-requires c κs = search needs
 
 mul-result : tie.Need-mul-result
-mul-result c = record { fits = fits-product (c .before .before .args .depth) (c .twelfths .result) (c .before .if1 .taken) (twelfths-few _ _ (axes-range (c .before .before .args .self)) (c .twelfths .ensures)) }
+mul-result c =
+    let args = c .before .before .args in
+    record { fits = fits-product (args .depth) (c .twelfths .result) (c .before .if1 .taken) (twelfths-few _ _ (axes-range (args .self)) (c .twelfths .ensures)) }
 
 returns : tie.Need-returns
 returns c = box-depth-by _ _ _ (omega (arith, (axes-range (c .before .before .args .self)) .two)) (c .twelfths .ensures)

@@ -16,7 +16,9 @@ box-depth-requires : tie.Need-box-depth-requires
 box-depth-requires c κs = search needs
 
 add-result-2 : tie.Need-add-result-2
-add-result-2 c = omega (arith, axes-range (c .before .before .args .self) .few, box-small (axesOf (c .before .before .args .self)) (c .before .before .args .depth) (axes-range (c .before .before .args .self)))
+add-result-2 c =
+    let args = c .before .before .args in
+    omega (arith, axes-range (args .self) .few, box-small (axesOf (args .self)) (args .depth) (axes-range (args .self)))
 
 returns : tie.Need-returns
 unfolding codeLength

@@ -22,7 +22,9 @@ sub-boxes : tie.Need-sub-boxes Inv-loop μ-loop
 sub-boxes c = c .before .pre .1
 
 returns : tie.Need-returns Inv-loop μ-loop
-returns c = fitting-empty (c .before .before .args .d) (drop (2 + c .before .before .args .d) (c .before .before .args .code .now)) (length-drop (2 + c .before .before .args .d) (c .before .before .args .code .now) ∙ c .if1 .taken)
+returns c =
+    let args = c .before .before .args in
+    fitting-empty (args .d) (drop (2 + args .d) (args .code .now)) (length-drop (2 + args .d) (args .code .now) ∙ c .if1 .taken)
 
 loop-holds : tie.Need-loop-holds Inv-loop μ-loop
 loop-holds c = fitting-none _ _ _
@@ -31,10 +33,19 @@ place-in-requires : tie.Need-place-in-requires Inv-loop μ-loop
 place-in-requires c κs = search needs
 
 add-any : tie.Need-add-any Inv-loop μ-loop
-add-any c = let n : ℕ = length (c .before .before .before .before .before .args .code .now) - (2 + c .before .before .before .before .before .args .d) in omega (arith, c .place-in .ensures, place-within (c .before .before .loop .i) n (omega (arith, c .before .before .before .if1 .left)), c .before .before .before .before .before .pre .0, c .before .before .before .before .before .pre .2)
+add-any c =
+    let args = c .before .before .before .before .before .args in
+    let pre = c .before .before .before .before .before .pre in
+    let if1 = c .before .before .before .if1 in
+    let n : ℕ = length (args .code .now) - (2 + args .d) in omega
+    (arith, c .place-in .ensures, place-within (c .before .before .loop .i) n (omega (arith, if1 .left)), pre .0, pre .2)
 
 shared-slice-read-any : tie.Need-shared-slice-read-any Inv-loop μ-loop
-shared-slice-read-any c = let n : ℕ = length (c .before .before .before .before .before .before .args .code .now) - (2 + c .before .before .before .before .before .before .args .d) in omega (arith, c .before .place-in .ensures, place-within (c .before .before .before .loop .i) n (omega (arith, c .before .before .before .before .if1 .left)))
+shared-slice-read-any c =
+    let args = c .before .before .before .before .before .before .args in
+    let if1 = c .before .before .before .before .if1 in
+    let loop = c .before .before .before .loop in
+    let n : ℕ = length (args .code .now) - (2 + args .d) in omega (arith, c .before .place-in .ensures, place-within (loop .i) n (omega (arith, if1 .left)))
 
 add-i : tie.Need-add-i Inv-loop μ-loop
 add-i c = search needs
@@ -58,7 +69,10 @@ shr-result c = c .before .before .before .before .pre .0
 
 returns-2 : tie.Need-returns-2 Inv-loop μ-loop
 unfolding halvings
-returns-2 c = fitting-all (c .before .loop .inv) (sym (length-drop (2 + c .before .before .before .before .args .d) (c .before .before .before .before .args .code .now))) (omega (arith, c .loop-test .left, c .before .before .before .before .pre .2))
+returns-2 c =
+    let args = c .before .before .before .before .args in
+    let pre = c .before .before .before .before .pre in
+    fitting-all (c .before .loop .inv) (sym (length-drop (2 + args .d) (args .code .now))) (omega (arith, c .loop-test .left, pre .2))
 
 pub orthants-fit-spec : {M : Type 1} → statement M
 orthants-fit-spec =

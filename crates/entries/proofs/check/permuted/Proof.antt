@@ -25,10 +25,17 @@ place-in-requires : tie.Need-place-in-requires Inv-loop μ-loop
 place-in-requires c κs = search needs
 
 add-mark-of : tie.Need-add-mark-of Inv-loop μ-loop
-add-mark-of c = omega (arith, c .place-in .ensures, place-within (c .before .before .loop .i) (c .before .before .before .before .args .d) (c .before .before .before .before .pre .0), c .before .before .before .before .pre .2)
+add-mark-of c =
+    let args = c .before .before .before .before .args in
+    let pre = c .before .before .before .before .pre in
+    omega (arith, c .place-in .ensures, place-within (c .before .before .loop .i) (args .d) (pre .0), pre .2)
 
 shared-slice-read-mark-of : tie.Need-shared-slice-read-mark-of Inv-loop μ-loop
-shared-slice-read-mark-of c = omega (arith, c .before .place-in .ensures, place-within (c .before .before .before .loop .i) (c .before .before .before .before .before .args .d) (c .before .before .before .before .before .pre .0), c .before .before .before .before .before .pre .2)
+shared-slice-read-mark-of c =
+    let args = c .before .before .before .before .before .args in
+    let pre = c .before .before .before .before .before .pre in
+    let loop = c .before .before .before .loop in
+    omega (arith, c .before .place-in .ensures, place-within (loop .i) (args .d) (pre .0), pre .2)
 
 mark-of-requires : tie.Need-mark-of-requires Inv-loop μ-loop
 mark-of-requires c κs = search needs
@@ -59,7 +66,11 @@ sub-result : tie.Need-sub-result Inv-loop μ-loop
 sub-result c = rw (shifted-bit (c .before .before .before .args .d) (omega (arith, c .before .before .before .pre .1))) (pow-pos (c .before .before .before .args .d))
 
 returns : tie.Need-returns Inv-loop μ-loop
-returns c = permuted-at (c .before .before .before .args .s .now) (c .before .before .before .args .at) (c .before .before .before .args .d) (c .before .loop .i) (c .before .loop .seen) (c .before .before .before .pre .2) (c .before .before .before .pre .1) (omega (arith, c .loop-test .left, c .before .before .before .pre .1)) (c .before .loop .inv)
+returns c =
+    let args = c .before .before .before .args in
+    let pre = c .before .before .before .pre in
+    permuted-at (args .s .now) (args .at) (args .d) (c .before .loop .i) (c .before .loop .seen) (pre .2) (pre .1) (omega (arith, c .loop-test .left, pre .1))
+    (c .before .loop .inv)
 
 pub permuted-spec : {M : Type 1} → statement M
 permuted-spec =

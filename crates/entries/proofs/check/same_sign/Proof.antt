@@ -17,10 +17,16 @@ is-minus-requires : tie.Need-is-minus-requires
 is-minus-requires c κs = search needs
 
 returns : tie.Need-returns
-returns c = (c .before .before .is-high .ensures ∙ ap (high (c .before .before .before .before .args .own)) (c .before .before .before .axis-of .ensures)) ∙ same-minus _ _ (sym (c .before .is-minus .ensures) ∙ c .if1 .taken)
+returns c =
+    let args = c .before .before .before .before .args in
+    let axis-of = c .before .before .before .axis-of in
+    (c .before .before .is-high .ensures ∙ ap (high (args .own)) (axis-of .ensures)) ∙ same-minus _ _ (sym (c .before .is-minus .ensures) ∙ c .if1 .taken)
 
 returns-2 : tie.Need-returns-2
-returns-2 c = ap not (c .before .before .is-high .ensures ∙ ap (high (c .before .before .before .before .args .own)) (c .before .before .before .axis-of .ensures)) ∙ same-plus _ _ (sym (c .before .is-minus .ensures) ∙ c .if1 .left)
+returns-2 c =
+    let args = c .before .before .before .before .args in
+    let axis-of = c .before .before .before .axis-of in
+    ap not (c .before .before .is-high .ensures ∙ ap (high (args .own)) (axis-of .ensures)) ∙ same-plus _ _ (sym (c .before .is-minus .ensures) ∙ c .if1 .left)
 
 pub same-sign-spec : {M : Type 1} → statement M
 same-sign-spec =

@@ -22,21 +22,36 @@ place-in-requires : tie.Need-place-in-requires Inv-loop μ-loop
 place-in-requires c κs = search needs
 
 add-same-sign : tie.Need-add-same-sign Inv-loop μ-loop
-add-same-sign c = omega (arith, c .place-in .ensures, place-within (c .before .before .loop .i) (c .before .before .before .before .args .k) (c .before .before .before .before .pre .0), c .before .before .before .before .pre .1)
+add-same-sign c =
+    let args = c .before .before .before .before .args in
+    let pre = c .before .before .before .before .pre in
+    omega (arith, c .place-in .ensures, place-within (c .before .before .loop .i) (args .k) (pre .0), pre .1)
 
 shared-slice-read-same-sign : tie.Need-shared-slice-read-same-sign Inv-loop μ-loop
-shared-slice-read-same-sign c = omega (arith, c .before .place-in .ensures, place-within (c .before .before .before .loop .i) (c .before .before .before .before .before .args .k) (c .before .before .before .before .before .pre .0), c .before .before .before .before .before .pre .2)
+shared-slice-read-same-sign c =
+    let args = c .before .before .before .before .before .args in
+    let pre = c .before .before .before .before .before .pre in
+    let loop = c .before .before .before .loop in
+    omega (arith, c .before .place-in .ensures, place-within (loop .i) (args .k) (pre .0), pre .2)
 
 same-sign-requires : tie.Need-same-sign-requires Inv-loop μ-loop
 same-sign-requires c κs =
-    let l : c .before .place-in .result < c .before .before .before .before .before .args .k = omega (arith, c .before .place-in .ensures, place-within (c .before .before .before .loop .i) (c .before .before .before .before .before .args .k) (c .before .before .before .before .before .pre .0)) in
-    (c .before .before .before .before .before .pre .3 .low (c .before .place-in .result) l, c .before .before .before .before .before .pre .3 .high (c .before .place-in .result) l)
+    let args = c .before .before .before .before .before .args in
+    let pre = c .before .before .before .before .before .pre in
+    let loop = c .before .before .before .loop in
+    let l : c .before .place-in .result < args .k = omega (arith, c .before .place-in .ensures, place-within (loop .i) (args .k) (pre .0)) in
+    (pre .3 .low (c .before .place-in .result) l, pre .3 .high (c .before .place-in .result) l)
 
 returns : tie.Need-returns Inv-loop μ-loop
 returns c =
-    let code = c .before .before .before .before .before .before .before .args .code .now in
-    up-to-fail (drop 2 code) (c .before .before .before .before .before .before .before .args .own) (c .before .before .before .before .before .before .before .args .k) (c .before .before .before .before .before .loop .i) (c .before .before .before .before .before .before .before .pre .0)
-    (ap (signTest (drop 2 code) (c .before .before .before .before .before .before .before .args .own)) (sym (c .before .before .before .place-in .ensures)) ∙ rw (← at-place code 2 (c .before .before .before .place-in .result)) (sym (c .before .same-sign .ensures) ∙ not-true _ (c .if1 .taken)))
+    let args = c .before .before .before .before .before .before .before .args in
+    let pre = c .before .before .before .before .before .before .before .pre in
+    let loop = c .before .before .before .before .before .loop in
+    let place-in = c .before .before .before .place-in in
+    let code = args .code .now in
+    up-to-fail (drop 2 code) (args .own) (args .k) (loop .i) (pre .0)
+    (ap (signTest (drop 2 code) (args .own)) (sym (place-in .ensures)) ∙ rw (← at-place code 2 (place-in .result))
+    (sym (c .before .same-sign .ensures) ∙ not-true _ (c .if1 .taken)))
 
 add-i : tie.Need-add-i Inv-loop μ-loop
 add-i c = search needs
@@ -46,9 +61,13 @@ loop-less c = omega (arith, c .before .before .before .before .loop-test .taken)
 
 loop-again : tie.Need-loop-again Inv-loop μ-loop
 loop-again c =
-    let code = c .before .before .before .before .before .before .before .args .code .now in
-    up-to-next (c .before .before .before .before .before .loop .inv)
-    (ap (signTest (drop 2 code) (c .before .before .before .before .before .before .before .args .own)) (sym (c .before .before .before .place-in .ensures)) ∙ rw (← at-place code 2 (c .before .before .before .place-in .result)) (sym (c .before .same-sign .ensures) ∙ not-false _ (c .if1 .left)))
+    let args = c .before .before .before .before .before .before .before .args in
+    let loop = c .before .before .before .before .before .loop in
+    let place-in = c .before .before .before .place-in in
+    let code = args .code .now in
+    up-to-next (loop .inv)
+    (ap (signTest (drop 2 code) (args .own)) (sym (place-in .ensures)) ∙ rw (← at-place code 2 (place-in .result))
+    (sym (c .before .same-sign .ensures) ∙ not-false _ (c .if1 .left)))
 
 returns-2 : tie.Need-returns-2 Inv-loop μ-loop
 returns-2 c = up-to-all (c .before .loop .inv) (omega (arith, c .before .before .before .pre .1, c .loop-test .left))

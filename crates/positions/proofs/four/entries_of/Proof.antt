@@ -24,7 +24,10 @@ add-fourth : tie.Need-add-fourth
 add-fourth c = omega (arith, c .place-in2 .ensures, kept-under 3 (c .before .before .before .before .args .d) (c .before .before .before .before .pre .0), c .before .before .before .before .pre .1)
 
 shared-slice-read-fourth : tie.Need-shared-slice-read-fourth
-shared-slice-read-fourth c = omega (arith, c .before .place-in2 .ensures, kept-under 3 (c .before .before .before .before .before .args .d) (c .before .before .before .before .before .pre .0), c .before .before .before .before .before .pre .2)
+shared-slice-read-fourth c =
+    let args = c .before .before .before .before .before .args in
+    let pre = c .before .before .before .before .before .pre in
+    omega (arith, c .before .place-in2 .ensures, kept-under 3 (args .d) (pre .0), pre .2)
 
 shared-slice-read-t8 : tie.Need-shared-slice-read-t8
 shared-slice-read-t8 c = search needs
@@ -39,7 +42,12 @@ pick-requires-2 : tie.Need-pick-requires-2
 pick-requires-2 c κs = search needs
 
 returns : tie.Need-returns
-returns c = rw (c .before .pick .ensures, c .pick2 .ensures, c .before .before .before .before .before .before .before .place-in .ensures, c .before .before .before .before .before .place-in2 .ensures) (entries-are (c .before .before .before .before .before .before .before .before .before .args .code .now) (c .before .before .before .before .before .before .before .before .before .args .d) (c .before .before .before .before .before .before .before .before .before .pre .0) (c .before .before .before .before .before .before .before .before .before .pre .1) (c .before .before .before .before .before .before .before .before .before .pre .2))
+returns c =
+    let args = c .before .before .before .before .before .before .before .before .before .args in
+    let pre = c .before .before .before .before .before .before .before .before .before .pre in
+    let place-in = c .before .before .before .before .before .before .before .place-in in
+    let place-in2 = c .before .before .before .before .before .place-in2 in
+    rw (c .before .pick .ensures, c .pick2 .ensures, place-in .ensures, place-in2 .ensures) (entries-are (args .code .now) (args .d) (pre .0) (pre .1) (pre .2))
 
 pub entries-of-spec : {M : Type 1} → statement M
 entries-of-spec =

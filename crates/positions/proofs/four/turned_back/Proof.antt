@@ -25,7 +25,13 @@ pick-requires-3 : tie.Need-pick-requires-3
 pick-requires-3 c κs = search needs
 
 returns : tie.Need-returns
-returns c = rw (c .before .before .pick .ensures, c .before .pick2 .ensures, c .pick3 .ensures) (turned-is (c .before .before .before .before .before .args .e) (c .before .before .before .before .before .args .n) _ (c .before .before .before .before .before .pre .0) (c .before .before .before .negate .ensures ∙ ap negated (c .before .before .before .before .entry .ensures)))
+returns c =
+    let args = c .before .before .before .before .before .args in
+    let pre = c .before .before .before .before .before .pre in
+    let entry = c .before .before .before .before .entry in
+    let negate = c .before .before .before .negate in
+    rw (c .before .before .pick .ensures, c .before .pick2 .ensures, c .pick3 .ensures)
+    (turned-is (args .e) (args .n) _ (pre .0) (negate .ensures ∙ ap negated (entry .ensures)))
 
 pub turned-back-spec : {M : Type 1} → statement M
 turned-back-spec =

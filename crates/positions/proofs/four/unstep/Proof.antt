@@ -35,7 +35,16 @@ pick-requires-5 : tie.Need-pick-requires-5
 pick-requires-5 c κs = search needs
 
 returns : tie.Need-returns
-returns c = rw (c .before .before .before .before .pick .ensures, c .before .before .before .pick2 .ensures, c .before .before .pick3 .ensures, c .before .pick4 .ensures, c .pick5 .ensures) (back-is (c .before .before .before .before .before .before .before .before .args .e) (c .before .before .before .before .before .turned-back .result) (c .before .before .before .before .before .before .before .before .args .n) (c .before .before .before .before .before .before .before .before .args .own) (c .before .before .before .before .before .before .same-sign .result) (c .before .before .before .before .before .before .same-sign .ensures ∙ ap (λ (x : ℕ). sameSign (minus x) (high (c .before .before .before .before .before .before .before .before .args .own) (axis x))) (c .before .before .before .before .before .before .before .entry .ensures)) (c .before .before .before .before .before .turned-back .ensures))
+returns c =
+    let args = c .before .before .before .before .before .before .before .before .args in
+    let entry = c .before .before .before .before .before .before .before .entry in
+    let same-sign = c .before .before .before .before .before .before .same-sign in
+    let turned-back = c .before .before .before .before .before .turned-back in
+    let pick = c .before .before .before .before .pick in
+    let pick2 = c .before .before .before .pick2 in
+    rw (pick .ensures, pick2 .ensures, c .before .before .pick3 .ensures, c .before .pick4 .ensures, c .pick5 .ensures)
+    (back-is (args .e) (turned-back .result) (args .n) (args .own) (same-sign .result)
+    (same-sign .ensures ∙ ap (λ (x : ℕ). sameSign (minus x) (high (args .own) (axis x))) (entry .ensures)) (turned-back .ensures))
 
 pub unstep-spec : {M : Type 1} → statement M
 unstep-spec =

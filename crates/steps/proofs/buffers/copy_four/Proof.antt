@@ -54,7 +54,10 @@ same-length : tie.Need-same-length
 same-length c = search needs
 
 returns : tie.Need-returns
-returns c = copies-four (c .before .before .before .before .args .at) (c .before .before .before .before .args .src .now) (c .before .before .before .before .args .dst .now) (c .before .before .before .before .pre .1)
+returns c =
+    let args = c .before .before .before .before .args in
+    let pre = c .before .before .before .before .pre in
+    copies-four (args .at) (args .src .now) (args .dst .now) (pre .1)
 
 pub copy-four-spec : {M : Type 1} → statement M
 copy-four-spec =

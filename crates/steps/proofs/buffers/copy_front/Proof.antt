@@ -28,8 +28,11 @@ place-in-requires c κs = search needs
 
 copy-four-requires : tie.Need-copy-four-requires Inv-loop μ-loop
 copy-four-requires c κs =
-    let p : c .before .place-in .result + 4 ≤ c .before .before .before .before .before .before .args .n = omega (arith, c .before .place-in .ensures, place-no-later (c .before .before .before .loop .i) (c .before .before .before .before .before .before .args .n - 4), c .before .before .before .before .before .before .pre .0) in
-    (omega (arith, p, c .before .before .before .before .before .before .pre .2), omega (arith, p, c .before .before .before .before .before .before .pre .3, c .before .before .before .loop .inv .so-far .size))
+    let args = c .before .before .before .before .before .before .args in
+    let pre = c .before .before .before .before .before .before .pre in
+    let loop = c .before .before .before .loop in
+    let p : c .before .place-in .result + 4 ≤ args .n = omega (arith, c .before .place-in .ensures, place-no-later (loop .i) (args .n - 4), pre .0) in
+    (omega (arith, p, pre .2), omega (arith, p, pre .3, loop .inv .so-far .size))
 
 add-i : tie.Need-add-i Inv-loop μ-loop
 add-i c = omega (arith, c .before .before .before .before .before .loop-test .taken)
@@ -39,17 +42,28 @@ unfolding mostAxes halvings
 loop-less c = omega (arith, longest-is, c .before .before .before .before .before .loop-test .taken)
 
 loop-again : tie.Need-loop-again Inv-loop μ-loop
-loop-again c = fronted-next (c .before .before .before .before .before .before .loop .inv) (c .before .before .before .before .place-in .result) (c .before .before .before .before .place-in .ensures) (c .before .before .copy-four .ensures)
+loop-again c =
+    let loop = c .before .before .before .before .before .before .loop in
+    let place-in = c .before .before .before .before .place-in in
+    fronted-next (loop .inv) (place-in .result) (place-in .ensures) (c .before .before .copy-four .ensures)
 
 copy-four-requires-2 : tie.Need-copy-four-requires-2 Inv-loop μ-loop
-copy-four-requires-2 c κs = (omega (arith, c .before .before .before .before .before .pre .0, c .before .before .before .before .before .pre .2), omega (arith, c .before .before .before .before .before .pre .0, c .before .before .before .before .before .pre .3, c .before .before .loop .inv .so-far .size))
+copy-four-requires-2 c κs =
+    let pre = c .before .before .before .before .before .pre in
+    (omega (arith, pre .0, pre .2), omega (arith, pre .0, pre .3, c .before .before .loop .inv .so-far .size))
 
 same-length : tie.Need-same-length Inv-loop μ-loop
 same-length c = c .before .before .copy-four2 .ensures .size ∙ c .before .before .before .before .before .loop .inv .so-far .size
 
 returns : tie.Need-returns Inv-loop μ-loop
 unfolding mostAxes halvings
-returns c = fronted-last (c .before .before .before .before .before .loop .inv) (c .before .before .before .before .before .before .before .before .args .n) (c .before .before .copy-four2 .ensures) (omega (arith, longest-is, c .before .before .before .before .loop-test .left, c .before .before .before .before .before .before .before .before .pre .1)) (omega (arith, c .before .before .before .before .before .before .before .before .pre .0)) (c .before .before .before .before .before .before .before .before .pre .2) (c .before .before .before .before .before .before .before .before .pre .3)
+returns c =
+    let args = c .before .before .before .before .before .before .before .before .args in
+    let pre = c .before .before .before .before .before .before .before .before .pre in
+    let loop = c .before .before .before .before .before .loop in
+    let the-loop-test = c .before .before .before .before .loop-test in
+    fronted-last (loop .inv) (args .n) (c .before .before .copy-four2 .ensures) (omega (arith, longest-is, the-loop-test .left, pre .1)) (omega (arith, pre .0)) (pre .2)
+    (pre .3)
 
 pub copy-front-spec : {M : Type 1} → statement M
 copy-front-spec =

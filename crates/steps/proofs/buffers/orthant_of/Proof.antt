@@ -25,10 +25,17 @@ place-in-requires : tie.Need-place-in-requires Inv-loop μ-loop
 place-in-requires c κs = search needs
 
 add-e : tie.Need-add-e Inv-loop μ-loop
-add-e c = omega (arith, c .place-in .ensures, place-within (c .before .before .loop .i) (c .before .before .before .before .args .d) (c .before .before .before .before .pre .0), c .before .before .before .before .pre .2)
+add-e c =
+    let args = c .before .before .before .before .args in
+    let pre = c .before .before .before .before .pre in
+    omega (arith, c .place-in .ensures, place-within (c .before .before .loop .i) (args .d) (pre .0), pre .2)
 
 shared-slice-read-e : tie.Need-shared-slice-read-e Inv-loop μ-loop
-shared-slice-read-e c = omega (arith, c .before .place-in .ensures, place-within (c .before .before .before .loop .i) (c .before .before .before .before .before .args .d) (c .before .before .before .before .before .pre .0), c .before .before .before .before .before .pre .2)
+shared-slice-read-e c =
+    let args = c .before .before .before .before .before .args in
+    let pre = c .before .before .before .before .before .pre in
+    let loop = c .before .before .before .loop in
+    omega (arith, c .before .place-in .ensures, place-within (loop .i) (args .d) (pre .0), pre .2)
 
 is-minus-requires : tie.Need-is-minus-requires Inv-loop μ-loop
 is-minus-requires c κs = search needs
@@ -38,9 +45,13 @@ axis-of-requires c κs = search needs
 
 raise-requires : tie.Need-raise-requires Inv-loop μ-loop
 raise-requires c κs =
-    let j = c .before .before .before .before .place-in .result in
-    let l : j < c .before .before .before .before .before .before .before .before .args .d = omega (arith, c .before .before .before .before .place-in .ensures, place-within (c .before .before .before .before .before .before .loop .i) (c .before .before .before .before .before .before .before .before .args .d) (c .before .before .before .before .before .before .before .before .pre .0)) in
-    rw (c .axis-of .ensures, entry-at (c .before .before .before .before .before .before .before .before .args .buf .now) (c .before .before .before .before .before .before .before .before .args .at) (c .before .before .before .before .before .before .before .before .args .d) j l) (c .before .before .before .before .before .before .before .before .pre .3 .low j l, omega (arith, c .before .before .before .before .before .before .before .before .pre .3 .high j l, c .before .before .before .before .before .before .before .before .pre .1))
+    let args = c .before .before .before .before .before .before .before .before .args in
+    let pre = c .before .before .before .before .before .before .before .before .pre in
+    let loop = c .before .before .before .before .before .before .loop in
+    let place-in = c .before .before .before .before .place-in in
+    let j = place-in .result in
+    let l : j < args .d = omega (arith, place-in .ensures, place-within (loop .i) (args .d) (pre .0)) in
+    rw (c .axis-of .ensures, entry-at (args .buf .now) (args .at) (args .d) j l) (pre .3 .low j l, omega (arith, pre .3 .high j l, pre .1))
 
 add-i : tie.Need-add-i Inv-loop μ-loop
 add-i c = search needs
@@ -50,13 +61,18 @@ loop-less c = omega (arith, c .before .before .before .before .loop-test .taken)
 
 loop-again : tie.Need-loop-again Inv-loop μ-loop
 loop-again c =
-    let j = c .before .before .before .place-in .result in
-    let l : j < c .before .before .before .before .before .before .before .args .d = omega (arith, c .before .before .before .place-in .ensures, place-within (c .before .before .before .before .before .loop .i) (c .before .before .before .before .before .before .before .args .d) (c .before .before .before .before .before .before .before .pre .0)) in
-    let here : c .before .before .before .before .before .loop .i < c .before .before .before .before .before .before .before .args .d → j ≡ c .before .before .before .before .before .loop .i = λ h. c .before .before .before .place-in .ensures ∙ place-under (c .before .before .before .before .before .loop .i) (c .before .before .before .before .before .before .before .args .d) h in
-    let e = entry-at (c .before .before .before .before .before .before .before .args .buf .now) (c .before .before .before .before .before .before .before .args .at) (c .before .before .before .before .before .before .before .args .d) j l in
+    let args = c .before .before .before .before .before .before .before .args in
+    let pre = c .before .before .before .before .before .before .before .pre in
+    let loop = c .before .before .before .before .before .loop in
+    let place-in = c .before .before .before .place-in in
+    let j = place-in .result in
+    let l : j < args .d = omega (arith, place-in .ensures, place-within (loop .i) (args .d) (pre .0)) in
+    let here : loop .i < args .d → j ≡ loop .i = λ h. place-in .ensures ∙ place-under (loop .i) (args .d) h in
+    let e = entry-at (args .buf .now) (args .at) (args .d) j l in
     ⊎-elim
-    (λ w. rw (w .3 ∙ w .2 .ensures ∙ ap (raised (c .before .before .before .before .before .loop .mask)) (w .1 .ensures ∙ ap axis e)) (marking-minus (c .before .before .before .before .before .before .before .pre .3) (c .before .before .before .before .before .loop .inv) j l here (ap minus (sym e) ∙ sym (c .before .is-minus .ensures) ∙ w .0 .taken)))
-    (λ w. rw (w .1) (marking-plus (c .before .before .before .before .before .before .before .pre .3) (c .before .before .before .before .before .loop .inv) j l here (ap minus (sym e) ∙ sym (c .before .is-minus .ensures) ∙ w .0 .left)))
+    (λ w. rw (w .3 ∙ w .2 .ensures ∙ ap (raised (loop .mask)) (w .1 .ensures ∙ ap axis e))
+    (marking-minus (pre .3) (loop .inv) j l here (ap minus (sym e) ∙ sym (c .before .is-minus .ensures) ∙ w .0 .taken)))
+    (λ w. rw (w .1) (marking-plus (pre .3) (loop .inv) j l here (ap minus (sym e) ∙ sym (c .before .is-minus .ensures) ∙ w .0 .left)))
     (c .if1 .came)
 
 returns : tie.Need-returns Inv-loop μ-loop

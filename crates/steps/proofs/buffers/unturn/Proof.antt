@@ -24,7 +24,10 @@ negate-requires : tie.Need-negate-requires Inv-loop μ-loop
 negate-requires c κs = c .before .before .pre .1
 
 loop-holds : tie.Need-loop-holds Inv-loop μ-loop
-loop-holds c = (omega arith, unturning-none (c .before .before .before .args .buf .now) (c .before .before .before .args .at) (c .before .before .before .args .n) (c .before .before .before .pre .0) _ (c .negate .ensures))
+loop-holds c =
+    let args = c .before .before .before .args in
+    let pre = c .before .before .before .pre in
+    (omega arith, unturning-none (args .buf .now) (args .at) (args .n) (pre .0) _ (c .negate .ensures))
 
 add-e : tie.Need-add-e Inv-loop μ-loop
 add-e c = omega (arith, c .before .before .before .before .before .pre .0, c .loop-test .taken)
@@ -45,13 +48,24 @@ loop-less : tie.Need-loop-less Inv-loop μ-loop
 loop-less c = search needs
 
 loop-again : tie.Need-loop-again Inv-loop μ-loop
-loop-again c = (omega (arith, c .before .loop-test .taken), unturning-next (c .before .before .before .before .before .before .args .buf .now) (c .before .before .before .before .before .before .args .at) (c .before .before .before .before .before .before .args .n) (c .before .before .before .before .before .before .pre .0) (c .before .before .loop .i) (c .before .before .loop .buf) (c .before .before .loop .moved) (c .before .loop-test .taken) (c .before .before .loop .inv .1))
+loop-again c =
+    let args = c .before .before .before .before .before .before .args in
+    let pre = c .before .before .before .before .before .before .pre in
+    let loop = c .before .before .loop in (
+      omega (arith, c .before .loop-test .taken),
+      unturning-next (args .buf .now) (args .at) (args .n) (pre .0) (loop .i) (loop .buf) (loop .moved)
+          (c .before .loop-test .taken) (loop .inv .1),
+    )
 
 same-length : tie.Need-same-length Inv-loop μ-loop
 same-length c = c .before .loop .inv .1 .filled .size
 
 returns : tie.Need-returns Inv-loop μ-loop
-returns c = unturning-all (c .before .before .before .before .before .args .buf .now) (c .before .before .before .before .before .args .at) (c .before .before .before .before .before .args .n) (c .before .before .before .before .before .pre .0) (c .before .loop .i) (c .before .loop .buf) (c .before .loop .moved) (c .loop-test .left) (c .before .loop .inv .0) (c .before .loop .inv .1)
+returns c =
+    let args = c .before .before .before .before .before .args in
+    let pre = c .before .before .before .before .before .pre in
+    unturning-all (args .buf .now) (args .at) (args .n) (pre .0) (c .before .loop .i) (c .before .loop .buf) (c .before .loop .moved) (c .loop-test .left)
+    (c .before .loop .inv .0) (c .before .loop .inv .1)
 
 pub unturn-spec : {M : Type 1} → statement M
 unturn-spec =

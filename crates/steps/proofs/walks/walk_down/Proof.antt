@@ -22,16 +22,26 @@ axes-requires : tie.Need-axes-requires Inv-loop μ-loop
 axes-requires c κs = search needs
 
 loop-holds : tie.Need-loop-holds Inv-loop μ-loop
-loop-holds c = (omega arith, c .axes .ensures ∙ sym (at-root (axesOf (c .before .before .before .args .dim)) (omega (arith, (axes-range (c .before .before .before .args .dim)) .two)) .1), walk-none _ _ _)
+loop-holds c =
+    let args = c .before .before .before .args in
+    (omega arith, c .axes .ensures ∙ sym (at-root (axesOf (args .dim)) (omega (arith, (axes-range (args .dim)) .two)) .1), walk-none _ _ _)
 
 shared-slice-read-step-in : tie.Need-shared-slice-read-step-in Inv-loop μ-loop
 shared-slice-read-step-in c = search needs
 
 step-in-requires : tie.Need-step-in-requires Inv-loop μ-loop
-step-in-requires c κs = let r = walk-ready (omega (arith, (axes-range (c .before .before .before .before .before .before .before .args .dim)) .two)) (omega (arith, (axes-range (c .before .before .before .before .before .before .before .args .dim)) .few)) (c .before .before .before .loop .inv .2) (c .before .before .before .before .before .before .before .pre .1) (c .before .before .loop-test .taken) (c .before .before .before .before .before .before .before .pre .0) in (r .0, r .1, c .before .before .before .loop .inv .1)
+step-in-requires c κs =
+    let args = c .before .before .before .before .before .before .before .args in
+    let pre = c .before .before .before .before .before .before .before .pre in
+    let loop = c .before .before .before .loop in
+    let r = walk-ready (omega (arith, (axes-range (args .dim)) .two)) (omega (arith, (axes-range (args .dim)) .few)) (loop .inv .2) (pre .1)
+    (c .before .before .loop-test .taken) (pre .0) in (r .0, r .1, loop .inv .1)
 
 place-after-requires : tie.Need-place-after-requires Inv-loop μ-loop
-place-after-requires c κs = omega (arith, c .before .before .before .before .before .before .loop .inv .1, split-range (axesOf (c .before .before .before .before .before .before .before .before .before .before .args .dim)) (c .before .before .before .before .before .before .loop .t) (omega (arith, (axes-range (c .before .before .before .before .before .before .before .before .before .before .args .dim)) .two)) .0)
+place-after-requires c κs =
+    let args = c .before .before .before .before .before .before .before .before .before .before .args in
+    let loop = c .before .before .before .before .before .before .loop in
+    omega (arith, loop .inv .1, split-range (axesOf (args .dim)) (loop .t) (omega (arith, (axes-range (args .dim)) .two)) .0)
 
 add-t : tie.Need-add-t Inv-loop μ-loop
 add-t c = search needs
@@ -40,7 +50,20 @@ loop-less : tie.Need-loop-less Inv-loop μ-loop
 loop-less c = search needs
 
 loop-again : tie.Need-loop-again Inv-loop μ-loop
-loop-again c = (omega arith, c .place-after .ensures ∙ rw (c .before .before .before .before .before .before .before .before .axes .ensures) (split-after (axesOf (c .before .before .before .before .before .before .before .before .before .before .before .args .dim)) (c .before .before .before .before .before .before .before .loop .t) (c .before .before .before .before .before .before .before .loop .k) (omega (arith, (axes-range (c .before .before .before .before .before .before .before .before .before .before .before .args .dim)) .two)) (c .before .before .before .before .before .before .before .loop .inv .1)) ∙ ap (splitPlace (axesOf (c .before .before .before .before .before .before .before .before .before .before .before .args .dim))) (sym (add-one (c .before .before .before .before .before .before .before .loop .t))), walk-next (omega (arith, (axes-range (c .before .before .before .before .before .before .before .before .before .before .before .args .dim)) .two)) (omega (arith, (axes-range (c .before .before .before .before .before .before .before .before .before .before .before .args .dim)) .few)) (c .before .before .before .before .before .before .before .loop .inv .2) (c .before .before .before .before .before .before .before .before .before .before .before .pre .1) (c .before .before .before .before .before .before .loop-test .taken) _ (c .before .before .before .step-in .ensures))
+loop-again c =
+    let args = c .before .before .before .before .before .before .before .before .before .before .before .args in
+    let pre = c .before .before .before .before .before .before .before .before .before .before .before .pre in
+    let axes = c .before .before .before .before .before .before .before .before .axes in
+    let loop = c .before .before .before .before .before .before .before .loop in
+    let the-loop-test = c .before .before .before .before .before .before .loop-test in
+    let step-in = c .before .before .before .step-in in (
+      omega arith,
+      c .place-after .ensures ∙ rw (axes .ensures)
+          (split-after (axesOf (args .dim)) (loop .t) (loop .k) (omega (arith, (axes-range (args .dim)) .two)) (loop .inv .1)) ∙ ap (splitPlace (axesOf (args .dim)))
+          (sym (add-one (loop .t))),
+      walk-next (omega (arith, (axes-range (args .dim)) .two)) (omega (arith, (axes-range (args .dim)) .few)) (loop .inv .2) (pre .1)
+          (the-loop-test .taken) _ (step-in .ensures),
+    )
 
 same-length : tie.Need-same-length Inv-loop μ-loop
 same-length c = c .before .loop .inv .2 .size

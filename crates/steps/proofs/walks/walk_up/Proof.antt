@@ -32,34 +32,107 @@ box-depth-requires : tie.Need-box-depth-requires Inv-loop μ-loop
 box-depth-requires c κs = search needs
 
 loop-holds : tie.Need-loop-holds Inv-loop μ-loop
-loop-holds c = (omega arith, c .before .split-place .ensures ∙ ap (λ (d : ℕ). splitPlace d (c .before .before .before .before .before .before .args .depth)) (sym (c .before .before .axes .ensures)), c .box-depth .ensures ∙ ap (λ (d : ℕ). boxDepth d (c .before .before .before .before .before .before .args .depth)) (sym (c .before .before .axes .ensures)), climb-none (ready-at (c .before .before .axes .ensures) (c .before .before .before .before .before .before .pre)))
+loop-holds c =
+    let args = c .before .before .before .before .before .before .args in
+    let pre = c .before .before .before .before .before .before .pre in
+    let axes = c .before .before .axes in (
+      omega arith,
+      c .before .split-place .ensures ∙ ap (λ (d : ℕ). splitPlace d (args .depth)) (sym (axes .ensures)),
+      c .box-depth .ensures ∙ ap
+          (λ (d : ℕ). boxDepth d (args .depth)) (sym (axes .ensures)),
+      climb-none (ready-at (axes .ensures) (pre)),
+    )
 
 sub-t : tie.Need-sub-t Inv-loop μ-loop
 sub-t c = search needs
 
 boxes-above-requires : tie.Need-boxes-above-requires Inv-loop μ-loop
-boxes-above-requires c κs = above-ready (omega (arith, (c .before .before .before .before .axes .ensures), axes-range (c .before .before .before .before .before .before .before .before .args .dim) .two)) (c .loop-test .taken) (c .before .loop .inv .1) (c .before .loop .inv .2)
+boxes-above-requires c κs =
+    let args = c .before .before .before .before .before .before .before .before .args in
+    let axes = c .before .before .before .before .axes in
+    above-ready (omega (arith, (axes .ensures), axes-range (args .dim) .two)) (c .loop-test .taken) (c .before .loop .inv .1) (c .before .loop .inv .2)
 
 place-above-requires : tie.Need-place-above-requires Inv-loop μ-loop
-place-above-requires c κs = omega (arith, (c .before .before .loop .inv .1), split-range (c .before .before .before .before .before .axes .result) (c .before .before .loop .t) (omega (arith, (c .before .before .before .before .before .axes .ensures), axes-range (c .before .before .before .before .before .before .before .before .before .args .dim) .two)) .1, (c .before .before .before .before .before .axes .ensures), axes-range (c .before .before .before .before .before .before .before .before .before .args .dim) .few)
+place-above-requires c κs =
+    let args = c .before .before .before .before .before .before .before .before .before .args in
+    let axes = c .before .before .before .before .before .axes in
+    let loop = c .before .before .loop in
+    omega (
+      arith,
+      (loop .inv .1),
+      split-range (axes .result) (loop .t) (omega (arith, (axes .ensures), axes-range (args .dim) .two)) .1,
+      (axes .ensures),
+      axes-range
+          (args .dim) .few,
+    )
 
 own-of-requires : tie.Need-own-of-requires Inv-loop μ-loop
-own-of-requires c κs = omega (arith, (c .before .boxes-above .ensures ∙ above-boxes (omega (arith, (c .before .before .before .before .before .before .axes .ensures), axes-range (c .before .before .before .before .before .before .before .before .before .before .args .dim) .two)) (c .before .before .loop-test .taken) (c .before .before .before .loop .inv .1) (c .before .before .before .loop .inv .2)), boxes-room (c .before .before .before .before .before .before .axes .result) (c .before .before .before .loop .t - 1) (c .before .before .before .before .before .before .before .before .before .before .args .code .now) (up-size (ready-at (c .before .before .before .before .before .before .axes .ensures) (c .before .before .before .before .before .before .before .before .before .before .pre)) (c .before .before .before .loop .inv .3) (c .before .before .loop-test .taken) (c .before .before .before .loop .inv .0)))
+own-of-requires c κs =
+    let args = c .before .before .before .before .before .before .before .before .before .before .args in
+    let pre = c .before .before .before .before .before .before .before .before .before .before .pre in
+    let axes = c .before .before .before .before .before .before .axes in
+    let loop = c .before .before .before .loop in
+    let the-loop-test = c .before .before .loop-test in
+    omega (
+      arith,
+      (c .before .boxes-above .ensures ∙ above-boxes (omega (arith, (axes .ensures), axes-range (args .dim) .two)) (the-loop-test .taken) (loop .inv .1)
+          (loop .inv .2)),
+      boxes-room (axes .result) (loop .t - 1) (args .code .now)
+          (up-size (ready-at (axes .ensures) (pre)) (loop .inv .3) (the-loop-test .taken) (loop .inv .0)),
+    )
 
 sub-unstep : tie.Need-sub-unstep Inv-loop μ-loop
-sub-unstep c = rw (c .before .before .place-above .ensures ∙ above-place (omega (arith, (c .before .before .before .before .before .before .before .before .axes .ensures), axes-range (c .before .before .before .before .before .before .before .before .before .before .before .before .args .dim) .two)) (c .before .before .before .before .loop-test .taken) (c .before .before .before .before .before .loop .inv .1) (c .before .before .before .before .before .loop .inv .2)) (up-split (ready-at (c .before .before .before .before .before .before .before .before .axes .ensures) (c .before .before .before .before .before .before .before .before .before .before .before .before .pre)) (c .before .before .before .before .before .loop .inv .3) (c .before .before .before .before .loop-test .taken) (c .before .before .before .before .before .loop .inv .0))
+sub-unstep c =
+    let args = c .before .before .before .before .before .before .before .before .before .before .before .before .args in
+    let pre = c .before .before .before .before .before .before .before .before .before .before .before .before .pre in
+    let axes = c .before .before .before .before .before .before .before .before .axes in
+    let loop = c .before .before .before .before .before .loop in
+    let the-loop-test = c .before .before .before .before .loop-test in
+    rw (c .before .before .place-above .ensures ∙ above-place (omega (arith, (axes .ensures), axes-range (args .dim) .two)) (the-loop-test .taken) (loop .inv .1)
+    (loop .inv .2)) (up-split (ready-at (axes .ensures) (pre)) (loop .inv .3) (the-loop-test .taken) (loop .inv .0))
 
 unstep-requires : tie.Need-unstep-requires Inv-loop μ-loop
-unstep-requires c κs = up-ready (ready-at (c .before .before .before .before .before .before .before .before .axes .ensures) (c .before .before .before .before .before .before .before .before .before .before .before .before .pre)) (c .before .before .before .before .before .loop .inv .3) (c .before .before .before .before .loop-test .taken) (c .before .before .before .before .before .loop .inv .0) _ (ap (λ (k : ℕ). k - 1) (c .before .before .place-above .ensures ∙ above-place (omega (arith, (c .before .before .before .before .before .before .before .before .axes .ensures), axes-range (c .before .before .before .before .before .before .before .before .before .before .before .before .args .dim) .two)) (c .before .before .before .before .loop-test .taken) (c .before .before .before .before .before .loop .inv .1) (c .before .before .before .before .before .loop .inv .2)))
+unstep-requires c κs =
+    let pre = c .before .before .before .before .before .before .before .before .before .before .before .before .pre in
+    let args = c .before .before .before .before .before .before .before .before .before .before .before .before .args in
+    let axes = c .before .before .before .before .before .before .before .before .axes in
+    let loop = c .before .before .before .before .before .loop in
+    let the-loop-test = c .before .before .before .before .loop-test in
+    up-ready (ready-at (axes .ensures) (pre)) (loop .inv .3) (the-loop-test .taken) (loop .inv .0) _
+    (ap (λ (k : ℕ). k - 1) (c .before .before .place-above .ensures ∙ above-place (omega (arith, (axes .ensures), axes-range (args .dim) .two)) (the-loop-test .taken)
+    (loop .inv .1) (loop .inv .2)))
 
 slice-write-path : tie.Need-slice-write-path Inv-loop μ-loop
-slice-write-path c = omega (arith, c .before .before .before .before .before .before .before .before .loop .inv .3 .path-size, c .before .before .before .before .before .before .before .before .before .before .before .before .before .before .before .pre .depth, (c .before .before .before .before .before .before .before .before .loop .inv .0), (c .before .before .before .before .before .before .before .loop-test .taken))
+slice-write-path c =
+    let pre = c .before .before .before .before .before .before .before .before .before .before .before .before .before .before .before .pre in
+    let loop = c .before .before .before .before .before .before .before .before .loop in
+    let the-loop-test = c .before .before .before .before .before .before .before .loop-test in
+    omega (arith, loop .inv .3 .path-size, pre .depth, (loop .inv .0), (the-loop-test .taken))
 
 loop-less : tie.Need-loop-less Inv-loop μ-loop
 loop-less c = search needs
 
 loop-again : tie.Need-loop-again Inv-loop μ-loop
-loop-again c = (omega (arith, (c .before .before .before .before .before .before .before .before .loop .inv .0)), (c .before .before .before .before .before .place-above .ensures ∙ above-place (omega (arith, (c .before .before .before .before .before .before .before .before .before .before .before .axes .ensures), axes-range (c .before .before .before .before .before .before .before .before .before .before .before .before .before .before .before .args .dim) .two)) (c .before .before .before .before .before .before .before .loop-test .taken) (c .before .before .before .before .before .before .before .before .loop .inv .1) (c .before .before .before .before .before .before .before .before .loop .inv .2)), (c .before .before .before .before .before .before .boxes-above .ensures ∙ above-boxes (omega (arith, (c .before .before .before .before .before .before .before .before .before .before .before .axes .ensures), axes-range (c .before .before .before .before .before .before .before .before .before .before .before .before .before .before .before .args .dim) .two)) (c .before .before .before .before .before .before .before .loop-test .taken) (c .before .before .before .before .before .before .before .before .loop .inv .1) (c .before .before .before .before .before .before .before .before .loop .inv .2)), up-next (ready-at (c .before .before .before .before .before .before .before .before .before .before .before .axes .ensures) (c .before .before .before .before .before .before .before .before .before .before .before .before .before .before .before .pre)) (c .before .before .before .before .before .before .before .before .loop .inv .3) (c .before .before .before .before .before .before .before .loop-test .taken) (c .before .before .before .before .before .before .before .before .loop .inv .0) _ _ _ _ (ap (λ (k : ℕ). k - 1) (c .before .before .before .before .before .place-above .ensures ∙ above-place (omega (arith, (c .before .before .before .before .before .before .before .before .before .before .before .axes .ensures), axes-range (c .before .before .before .before .before .before .before .before .before .before .before .before .before .before .before .args .dim) .two)) (c .before .before .before .before .before .before .before .loop-test .taken) (c .before .before .before .before .before .before .before .before .loop .inv .1) (c .before .before .before .before .before .before .before .before .loop .inv .2))) (own-by (c .before .before .before .before .before .before .before .before .before .before .before .before .before .before .before .args .code .now) (c .before .before .before .before .before .before .before .before .before .before .before .axes .result) _ _ (c .before .before .before .before .before .before .boxes-above .ensures ∙ above-boxes (omega (arith, (c .before .before .before .before .before .before .before .before .before .before .before .axes .ensures), axes-range (c .before .before .before .before .before .before .before .before .before .before .before .before .before .before .before .args .dim) .two)) (c .before .before .before .before .before .before .before .loop-test .taken) (c .before .before .before .before .before .before .before .before .loop .inv .1) (c .before .before .before .before .before .before .before .before .loop .inv .2)) (c .before .before .before .before .own-of .ensures)) (c .before .before .unstep .ensures))
+loop-again c =
+    let args = c .before .before .before .before .before .before .before .before .before .before .before .before .before .before .before .args in
+    let pre = c .before .before .before .before .before .before .before .before .before .before .before .before .before .before .before .pre in
+    let axes = c .before .before .before .before .before .before .before .before .before .before .before .axes in
+    let loop = c .before .before .before .before .before .before .before .before .loop in
+    let the-loop-test = c .before .before .before .before .before .before .before .loop-test in
+    let boxes-above = c .before .before .before .before .before .before .boxes-above in
+    let place-above = c .before .before .before .before .before .place-above in
+    let own-of = c .before .before .before .before .own-of in (
+      omega (arith, (loop .inv .0)),
+      (place-above .ensures ∙ above-place (omega (arith, (axes .ensures), axes-range (args .dim) .two)) (the-loop-test .taken)
+          (loop .inv .1) (loop .inv .2)),
+      (boxes-above .ensures ∙ above-boxes (omega (arith, (axes .ensures), axes-range (args .dim) .two)) (the-loop-test .taken) (loop .inv .1) (loop .inv .2)),
+      up-next
+          (ready-at (axes .ensures) (pre)) (loop .inv .3) (the-loop-test .taken) (loop .inv .0) _ _ _ _
+          (ap (λ (k : ℕ). k - 1) (place-above .ensures ∙ above-place (omega (arith, (axes .ensures), axes-range (args .dim) .two)) (the-loop-test .taken) (loop .inv .1)
+          (loop .inv .2))) (own-by (args .code .now) (axes .result) _ _
+          (boxes-above .ensures ∙ above-boxes (omega (arith, (axes .ensures), axes-range (args .dim) .two)) (the-loop-test .taken) (loop .inv .1) (loop .inv .2))
+          (own-of .ensures)) (c .before .before .unstep .ensures),
+    )
 
 same-length : tie.Need-same-length Inv-loop μ-loop
 same-length c = c .before .loop .inv .3 .root-size

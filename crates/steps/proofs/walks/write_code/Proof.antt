@@ -25,16 +25,26 @@ slice-write-code-2 : tie.Need-slice-write-code-2
 slice-write-code-2 c = simp length-set (omega (arith, code-two (c .before .before .before .before .pre)))
 
 copy-requires : tie.Need-copy-requires
-copy-requires c κs = (omega (arith, c .before .axes .ensures, c .before .before .before .before .before .pre .axes), simp length-set (omega (arith, c .before .axes .ensures, code-two (c .before .before .before .before .before .pre))))
+copy-requires c κs =
+    let pre = c .before .before .before .before .before .pre in
+    (omega (arith, c .before .axes .ensures, pre .axes), simp length-set (omega (arith, c .before .axes .ensures, code-two (pre))))
 
 walk-down-requires : tie.Need-walk-down-requires
-walk-down-requires c κs = rw (c .before .before .before .copy .ensures, c .before .before .before .before .before .axes .ensures, code-d (c .before .before .before .before .before .before .before .before .before .pre), code-depth (c .before .before .before .before .before .before .before .before .before .pre)) (code-ready (c .before .before .before .before .before .before .before .before .before .pre))
+walk-down-requires c κs =
+    let pre = c .before .before .before .before .before .before .before .before .before .pre in
+    let axes = c .before .before .before .before .before .axes in
+    let copy = c .before .before .before .copy in
+    rw (copy .ensures, axes .ensures, code-d (pre), code-depth (pre)) (code-ready (pre))
 
 same-length : tie.Need-same-length
 same-length c = c .before .code2 .given ∙ (c .before .before .before .before .before .code .given ∙ simp length-set refl)
 
 returns : tie.Need-returns
-returns c = code-written (c .before .before .before .before .before .before .before .before .before .before .before .before .pre) _ (rw (c .before .before .before .before .before .before .copy .ensures, c .before .before .before .before .before .before .before .before .axes .ensures, code-d (c .before .before .before .before .before .before .before .before .before .before .before .before .pre), code-depth (c .before .before .before .before .before .before .before .before .before .before .before .before .pre)) at (c .before .before .walk-down .ensures))
+returns c =
+    let pre = c .before .before .before .before .before .before .before .before .before .before .before .before .pre in
+    let axes = c .before .before .before .before .before .before .before .before .axes in
+    let copy = c .before .before .before .before .before .before .copy in
+    code-written (pre) _ (rw (copy .ensures, axes .ensures, code-d (pre), code-depth (pre)) at (c .before .before .walk-down .ensures))
 
 pub write-code-spec : {M : Type 1} → statement M
 write-code-spec =
