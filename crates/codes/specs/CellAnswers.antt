@@ -14,7 +14,7 @@ use Rattle.bisection.specs.Theorems.Ladders.{first-is, all-hold, holds, fails, 
 use Rattle.bisection.specs.Theorems.CodePaths.{rootOf, pathOf, code-path}
 use Rattle.codes.specs.declared.Written.{Written}
 use Rattle.codes.specs.Outcomes.{Vertices, verticesRefusal}
-use Rattle.codes.specs.Writing.{refused-gives, done-gives}
+use Rattle.codes.specs.Writing.{refused-answers, done-answers}
 use Rattle.corners.specs.Points.{cell-length}
 use Rattle.corners.specs.Drawing.{CellReady, CellWritten, drawn-code}
 
@@ -22,7 +22,7 @@ use Rattle.corners.specs.Drawing.{CellReady, CellWritten, drawn-code}
 module _ (code before : List ℕ) where
   pub vertices-own : {x : ℕ} {r : Written} → x ≡ codeRefusal code → x ≢ done → (r .refusal ≡ x) × (r .length ≡ 0) → Vertices code before r before
   unfolding verticesRefusal
-  vertices-own e n f = refused-gives (first-is (stops (sym e) n)) n f
+  vertices-own e n f = refused-answers (first-is (stops (sym e) n)) n f
 
   -- as the code has the code's refusal, its dimension and the points' length
   module _ {x d n : ℕ} (e : x ≡ codeRefusal code) (z : x ≡ done) (axes : d ≡ dimensionOf code) (long : n ≡ pointsLength d) where
@@ -34,14 +34,14 @@ module _ (code before : List ℕ) where
 
     pub vertices-short : {r : Written} → length before < n → (r .refusal ≡ refusedShort) × (r .length ≡ 0) → Vertices code before r before
     unfolding verticesRefusal
-    vertices-short h f = refused-gives (first-is (past p (fails (lt-leb (pointsLength (dimensionOf code)) (length before) (omega (arith, size)))))) (omega arith) f
+    vertices-short h f = refused-answers (first-is (past p (fails (lt-leb (pointsLength (dimensionOf code)) (length before) (omega (arith, size)))))) (omega arith) f
 
     pub vertices-ready : n ≤ length before → CellReady code (length before)
     vertices-ready h = record { passing = p; space = omega (arith, size) }
 
     pub vertices-done : {after : List ℕ} → n ≤ length before → CellWritten code before after → Vertices code before (record { refusal = done; length = n }) after
     unfolding verticesRefusal
-    vertices-done h w = done-gives (cellBytes (cellOf (rootOf code) (pathOf code)))
+    vertices-done h w = done-answers (cellBytes (cellOf (rootOf code) (pathOf code)))
         (first-is (past p (holds (le-leb (pointsLength (dimensionOf code)) (length before) (omega (arith, size))) all-hold)))
         (sym size ∙ sym (cell-length (drawn-code code p .sized)))
         (w .is ∙ ap (λ (m : ℕ). cellBytes (cellOf (rootOf code) (pathOf code)) ++ drop m before) size)

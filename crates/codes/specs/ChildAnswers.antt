@@ -17,7 +17,7 @@ use Rattle.entries.specs.Passed.{Checked, checked}
 use Rattle.steps.specs.Relatives.{ChildReady}
 use Rattle.codes.specs.declared.Written.{Written}
 use Rattle.codes.specs.Outcomes.{Child, ChildOf, childRefusal}
-use Rattle.codes.specs.Writing.{refused-gives, done-gives}
+use Rattle.codes.specs.Writing.{refused-answers, done-answers}
 
 -- the child's code has the length that its depth gives
 pub child-length : (code : List ℕ) (b : ℕ) → codeRefusal code ≡ done → codeLength (dimensionOf code) (suc (depthOf code)) ≡ length (childCode b code)
@@ -40,7 +40,7 @@ child-of code which e =
 module _ (code : List ℕ) (which : ℕ) (before : List ℕ) where
   pub child-own : {x : ℕ} {r : Written} → x ≡ codeRefusal code → x ≢ done → (r .refusal ≡ x) × (r .length ≡ 0) → Child code which before r before
   unfolding childRefusal
-  child-own e n f = refused-gives (first-is (stops (sym e) n)) n f
+  child-own e n f = refused-answers (first-is (stops (sym e) n)) n f
 
   -- as the code has the code's refusal
   module _ {x : ℕ} (e : x ≡ codeRefusal code) (z : x ≡ done) where
@@ -49,7 +49,7 @@ module _ (code : List ℕ) (which : ℕ) (before : List ℕ) where
 
     pub child-step : {r : Written} → 1 < which → (r .refusal ≡ refusedStep) × (r .length ≡ 0) → Child code which before r before
     unfolding childRefusal
-    child-step h f = refused-gives (first-is (past p (fails (lt-leb which 1 h)))) (omega arith) f
+    child-step h f = refused-answers (first-is (past p (fails (lt-leb which 1 h)))) (omega arith) f
 
     -- as the code has the dimension, the depth and the greatest depth; then the child's length
     module _ (w : which ≤ 1) {d D g : ℕ} (axes : d ≡ dimensionOf code) (depth : D ≡ depthOf code) (greatest : g ≡ greatestDepth d) where
@@ -58,7 +58,7 @@ module _ (code : List ℕ) (which : ℕ) (before : List ℕ) where
 
       pub child-deepest : {r : Written} → g ≤ D → (r .refusal ≡ refusedDeepest) × (r .length ≡ 0) → Child code which before r before
       unfolding childRefusal
-      child-deepest h f = refused-gives (first-is (past p (holds (le-leb which 1 w) (fails (le-ltb (depthOf code) (greatestDepth (dimensionOf code)) (omega (arith, limit))))))) (omega arith) f
+      child-deepest h f = refused-answers (first-is (past p (holds (le-leb which 1 w) (fails (le-ltb (depthOf code) (greatestDepth (dimensionOf code)) (omega (arith, limit))))))) (omega arith) f
 
       module _ (l : D < g) {n : ℕ} (long : n ≡ codeLength d (D + 1)) where
         deeper : depthOf code < greatestDepth (dimensionOf code)
@@ -69,7 +69,7 @@ module _ (code : List ℕ) (which : ℕ) (before : List ℕ) where
 
         pub child-short : {r : Written} → length before < n → (r .refusal ≡ refusedShort) × (r .length ≡ 0) → Child code which before r before
         unfolding childRefusal
-        child-short h f = refused-gives (first-is (past p (holds (le-leb which 1 w) (holds (lt-ltb (depthOf code) (greatestDepth (dimensionOf code)) deeper)
+        child-short h f = refused-answers (first-is (past p (holds (le-leb which 1 w) (holds (lt-ltb (depthOf code) (greatestDepth (dimensionOf code)) deeper)
             (fails (lt-leb (codeLength (dimensionOf code) (suc (depthOf code))) (length before) (omega (arith, size)))))))) (omega arith) f
 
         pub child-ready : n ≤ length before → ChildReady code d D before
@@ -78,6 +78,6 @@ module _ (code : List ℕ) (which : ℕ) (before : List ℕ) where
         pub child-done : {after : List ℕ} → n ≤ length before → after ≡ childCode which code ++ drop (codeLength d (suc D)) before
             → Child code which before (record { refusal = done; length = n }) after
         unfolding childRefusal
-        child-done h g = done-gives (childCode which code) (first-is (past p (holds (le-leb which 1 w) (holds (lt-ltb (depthOf code) (greatestDepth (dimensionOf code)) deeper)
+        child-done h g = done-answers (childCode which code) (first-is (past p (holds (le-leb which 1 w) (holds (lt-ltb (depthOf code) (greatestDepth (dimensionOf code)) deeper)
             (holds (le-leb (codeLength (dimensionOf code) (suc (depthOf code))) (length before) (omega (arith, size))) all-hold)))))
             (sym size ∙ child-length code which p) (g ∙ ap (λ (m : ℕ). childCode which code ++ drop m before) (sym (long ∙ ap (codeLength d) (add-one D)))) (child-of code which p)

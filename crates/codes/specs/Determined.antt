@@ -14,7 +14,7 @@ use Rattle.bisection.specs.Refusals.{codeRefusal}
 use Rattle.bisection.specs.Theorems.CodePaths.{one-path}
 use Rattle.codes.specs.declared.Written.{Written}
 use Rattle.codes.specs.declared.PathWritten.{PathWritten}
-use Rattle.codes.specs.Outcomes.{Writes, Gives, PathToCode, toPathRefusal, PathOf, CodeToPath, VerticesOf, Vertices, ChildOf, Child, ParentOf, Parent}
+use Rattle.codes.specs.Outcomes.{Writes, Answers, PathToCode, toPathRefusal, PathOf, CodeToPath, VerticesOf, Vertices, ChildOf, Child, ParentOf, Parent}
 
 -- an outcome: the answer and the buffer at exit
 same-written : {r r' : Written} → r .refusal ≡ r' .refusal → r .length ≡ r' .length → r ≡ r'
@@ -32,9 +32,9 @@ writes-determined {refusal} {answer} {answer'} {before} {after} {after'} {r} {r'
     )
     go (no e) = (same-written (w .number ∙ sym (w' .number)) (w .refused e .0 ∙ sym (w' .refused e .0)), w .refused e .1 ∙ sym (w' .refused e .1))
 
-gives-determined : {refusal : ℕ} {Is : List ℕ → Type 0} → ((a a' : List ℕ) → Is a → Is a' → a ≡ a') → {before after after' : List ℕ} {r r' : Written}
-    → Gives refusal Is before r after → Gives refusal Is before r' after' → (r ≡ r') × (after ≡ after')
-gives-determined one g g' = writes-determined (λ e. one (g .answer) (g' .answer) (g .is e) (g' .is e)) (g .writes) (g' .writes)
+answers-determined : {refusal : ℕ} {Is : List ℕ → Type 0} → ((a a' : List ℕ) → Is a → Is a' → a ≡ a') → {before after after' : List ℕ} {r r' : Written}
+    → Answers refusal Is before r after → Answers refusal Is before r' after' → (r ≡ r') × (after ≡ after')
+answers-determined one g g' = writes-determined (λ e. one (g .answer) (g' .answer) (g .is e) (g' .is e)) (g .writes) (g' .writes)
 
 pub code-check-determined : (code : List ℕ) {r r' : ℕ} → r ≡ codeRefusal code → r' ≡ codeRefusal code → r ≡ r'
 code-check-determined code e f = e ∙ sym f
@@ -50,7 +50,7 @@ vertices-one code a a' v v' = v .is ∙ rw (p .0, p .1) refl ∙ sym (v' .is)
     p = one-path (v .code-of) (v' .code-of)
 
 pub vertices-determined : (code : List ℕ) {before after after' : List ℕ} {r r' : Written} → Vertices code before r after → Vertices code before r' after' → (r ≡ r') × (after ≡ after')
-vertices-determined code = gives-determined (vertices-one code)
+vertices-determined code = answers-determined (vertices-one code)
 
 child-one : (which : ℕ) (code a a' : List ℕ) → ChildOf which code a → ChildOf which code a' → a ≡ a'
 child-one which code a a' v v' = v .is ∙ rw (p .0, p .1) refl ∙ sym (v' .is)
@@ -59,7 +59,7 @@ child-one which code a a' v v' = v .is ∙ rw (p .0, p .1) refl ∙ sym (v' .is)
     p = one-path (v .code-of) (v' .code-of)
 
 pub child-determined : (code : List ℕ) (which : ℕ) {before after after' : List ℕ} {r r' : Written} → Child code which before r after → Child code which before r' after' → (r ≡ r') × (after ≡ after')
-child-determined code which = gives-determined (child-one which code)
+child-determined code which = answers-determined (child-one which code)
 
 -- a path is known by the path with one step more
 shorter : (p q : List ℕ) (x y : ℕ) → p ++ x ∷ [] ≡ q ++ y ∷ [] → p ≡ q
@@ -75,7 +75,7 @@ parent-one code a a' v v' = v .is ∙ rw (p .0, shorter (v .path) (v' .path) (v 
     p = one-path (v .code-of) (v' .code-of)
 
 pub parent-determined : (code : List ℕ) {before after after' : List ℕ} {r r' : Written} → Parent code before r after → Parent code before r' after' → (r ≡ r') × (after ≡ after')
-parent-determined code = gives-determined (parent-one code)
+parent-determined code = answers-determined (parent-one code)
 
 pub code-to-path-determined : {code roots paths root path root' path' : List ℕ} {r r' : PathWritten} → CodeToPath code roots paths r root path → CodeToPath code roots paths r' root' path'
     → (r ≡ r') × (root ≡ root') × (path ≡ path')

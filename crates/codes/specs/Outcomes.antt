@@ -23,7 +23,7 @@ pub record Writes (refusal : ℕ) (answer before : List ℕ) (r : Written) (afte
   pub written : refusal ≡ done → (r .length ≡ length answer) × (after ≡ answer ++ drop (length answer) before)
 
 -- an entry whose answer is the one of a relation
-pub record Gives (refusal : ℕ) (Is : List ℕ → Type 0) (before : List ℕ) (r : Written) (after : List ℕ) : Type 0 where
+pub record Answers (refusal : ℕ) (Is : List ℕ → Type 0) (before : List ℕ) (r : Written) (after : List ℕ) : Type 0 where
   pub answer : List ℕ
   pub writes : Writes refusal answer before r after
   pub is : refusal ≡ done → Is answer
@@ -78,7 +78,7 @@ pub record VerticesOf (code answer : List ℕ) : Type 0 where
   pub is : answer ≡ cellBytes (cellOf root path)
 
 abbrev pub Vertices : List ℕ → List ℕ → Written → List ℕ → Type 0
-Vertices code before r after = Gives (verticesRefusal code (length before)) (VerticesOf code) before r after
+Vertices code before r after = Answers (verticesRefusal code (length before)) (VerticesOf code) before r after
 
 -- child: the code's own; 7; 10; 11
 unfoldable pub childRefusal : List ℕ → ℕ → ℕ → ℕ
@@ -97,7 +97,7 @@ pub record ChildOf (which : ℕ) (code answer : List ℕ) : Type 0 where
   pub is : answer ≡ codeOf root (path ++ which ∷ [])
 
 abbrev pub Child : List ℕ → ℕ → List ℕ → Written → List ℕ → Type 0
-Child code which before r after = Gives (childRefusal code which (length before)) (ChildOf which code) before r after
+Child code which before r after = Answers (childRefusal code which (length before)) (ChildOf which code) before r after
 
 -- parent: the code's own; 9; 11
 unfoldable pub parentRefusal : List ℕ → ℕ → ℕ
@@ -116,4 +116,4 @@ pub record ParentOf (code answer : List ℕ) : Type 0 where
   pub is : answer ≡ codeOf root path
 
 abbrev pub Parent : List ℕ → List ℕ → Written → List ℕ → Type 0
-Parent code before r after = Gives (parentRefusal code (length before)) (ParentOf code) before r after
+Parent code before r after = Answers (parentRefusal code (length before)) (ParentOf code) before r after

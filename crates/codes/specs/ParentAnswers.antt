@@ -17,7 +17,7 @@ use Rattle.bisection.specs.Theorems.CodePaths.{parentCode, code-path, rootOf, p
 use Rattle.entries.specs.Passed.{Checked, checked}
 use Rattle.codes.specs.declared.Written.{Written}
 use Rattle.codes.specs.Outcomes.{parentRefusal, Parent, ParentOf}
-use Rattle.codes.specs.Writing.{refused-gives, done-gives}
+use Rattle.codes.specs.Writing.{refused-answers, done-answers}
 
 -- the parent's code is that of the path without its last step
 module _ (code : List ℕ) (e : codeRefusal code ≡ done) (l : 0 < depthOf code) where
@@ -71,7 +71,7 @@ module _ (code : List ℕ) (e : codeRefusal code ≡ done) (l : 0 < depthOf code
 module _ (code before : List ℕ) where
   pub parent-own : {x : ℕ} {r : Written} → x ≡ codeRefusal code → x ≢ done → (r .refusal ≡ x) × (r .length ≡ 0) → Parent code before r before
   unfolding parentRefusal
-  parent-own e n f = refused-gives (first-is (stops (sym e) n)) n f
+  parent-own e n f = refused-answers (first-is (stops (sym e) n)) n f
 
   -- as the code has the code's refusal and its depth
   module _ {x D : ℕ} (e : x ≡ codeRefusal code) (z : x ≡ done) (depth : D ≡ depthOf code) where
@@ -80,7 +80,7 @@ module _ (code before : List ℕ) where
 
     pub parent-root : {r : Written} → D ≡ 0 → (r .refusal ≡ refusedRoot) × (r .length ≡ 0) → Parent code before r before
     unfolding parentRefusal
-    parent-root h f = refused-gives (first-is (past p (fails (le-ltb 0 (depthOf code) (omega arith))))) (omega arith) f
+    parent-root h f = refused-answers (first-is (past p (fails (le-ltb 0 (depthOf code) (omega arith))))) (omega arith) f
 
     -- as the code has the dimension and the parent's length
     module _ (l : D ≢ 0) {d n : ℕ} (axes : d ≡ dimensionOf code) (long : n ≡ codeLength d (D - 1)) where
@@ -92,12 +92,12 @@ module _ (code before : List ℕ) where
 
       pub parent-short : {r : Written} → length before < n → (r .refusal ≡ refusedShort) × (r .length ≡ 0) → Parent code before r before
       unfolding parentRefusal
-      parent-short h f = refused-gives (first-is (past p (holds (lt-ltb 0 (depthOf code) deep)
+      parent-short h f = refused-answers (first-is (past p (holds (lt-ltb 0 (depthOf code) deep)
           (fails (lt-leb (codeLength (dimensionOf code) (depthOf code - 1)) (length before) (omega (arith, size))))))) (omega arith) f
 
       pub parent-done : {after : List ℕ} → n ≤ length before → after ≡ parentCode code ++ drop (codeLength d (D - 1)) before
           → Parent code before (record { refusal = done; length = n }) after
       unfolding parentRefusal
-      parent-done h g = done-gives (parentCode code) (first-is (past p (holds (lt-ltb 0 (depthOf code) deep)
+      parent-done h g = done-answers (parentCode code) (first-is (past p (holds (lt-ltb 0 (depthOf code) deep)
           (holds (le-leb (codeLength (dimensionOf code) (depthOf code - 1)) (length before) (omega (arith, size))) all-hold))))
           (sym size ∙ parent-length code p deep) (g ∙ ap (λ (m : ℕ). parentCode code ++ drop m before) (sym long)) (parent-of code p deep)

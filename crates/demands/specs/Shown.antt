@@ -19,7 +19,7 @@ use Rattle.bisection.specs.Theorems.Neighbour.{isBlocked, tableCode, tablePlace
 use Rattle.codes.specs.Outcomes.{pathRefusal, PathToCode, verticesRefusal, Vertices, childRefusal, Child}
 use Rattle.codes.specs.PathAnswers.{good-root, code-of-length}
 use Rattle.codes.specs.ChildAnswers.{child-of, child-length}
-use Rattle.codes.specs.Writing.{done-writes, done-gives}
+use Rattle.codes.specs.Writing.{done-writes, done-answers}
 use Rattle.crossing.specs.Outcome.{Crosses, crossed, wall}
 use Rattle.sheets.specs.Sheets.{sheetMark, sampleWidth, GoodSheet, good}
 use Rattle.listing.specs.Texts.{Listing}
@@ -80,12 +80,12 @@ path-row {root} {path} {code} a before room = done-writes (codeOf root path)
 
 cell-row : {code points : List ℕ} → CellShown code points → Answered (Vertices code) points
 unfolding Answered verticesRefusal
-cell-row {code} {points} a before room = done-gives points (first-is (past (a .passes) (holds (le-leb (pointsLength (dimensionOf code)) (length before) (omega (arith, a .size))) all-hold))) refl refl
+cell-row {code} {points} a before room = done-answers points (first-is (past (a .passes) (holds (le-leb (pointsLength (dimensionOf code)) (length before) (omega (arith, a .size))) all-hold))) refl refl
     (record { root = rootOf code; path = pathOf code; code-of = code-path code (a .passes); is = sym (a .is) })
 
 child-row : {code : List ℕ} {which : ℕ} {answer : List ℕ} → ChildShown code which answer → Answered (Child code which) answer
 unfolding Answered childRefusal
-child-row {code} {which} {answer} a before room = done-gives (childCode which code)
+child-row {code} {which} {answer} a before room = done-answers (childCode which code)
     (first-is (past (a .passes) (holds (a .step) (holds (a .deeper) (holds (le-leb (codeLength (dimensionOf code) (suc (depthOf code))) (length before) fits) all-hold)))))
     (ap length (sym (a .is))) (ap (λ (c : List ℕ). c ++ drop (length answer) before) (sym (a .is))) (child-of code which (a .passes))
   where

@@ -177,7 +177,13 @@ module _ (d D : ℕ) (d0 : 0 < d) (small : d < 128) where
       → cond (sameSign (minus (getD (stepped b (suc n) (m .entries)) n 0)) (ownMinus (m .orthants) (axis (getD (stepped b (suc n) (m .entries)) n 0)))) 0 1 ≡ b
   unfolding stepped
   stepped-sign m p zero h = rw (same-is (minus (getD (m .entries) n 0)) (ownMinus (m .orthants) (axis (getD (m .entries) n 0))) (p .own .sign n (omega (arith, split-suc)))) refl
-  stepped-sign m p (suc zero) h = rw (turned-at n (m .entries) (omega (arith, p .signed .size, n-in)) n refl, axis-negated (getD (m .entries) 0 0) low, minus-negated (getD (m .entries) 0 0) low, p .own .sign 0 (omega (arith, split-suc)), same-against (ownMinus (m .orthants) (axis (getD (m .entries) 0 0)))) refl
+  stepped-sign m p (suc zero) h = rw (
+    turned-at n (m .entries) (omega (arith, p .signed .size, n-in)) n refl,
+    axis-negated (getD (m .entries) 0 0) low,
+    minus-negated (getD (m .entries) 0 0) low,
+    p .own .sign 0 (omega (arith, split-suc)),
+    same-against (ownMinus (m .orthants) (axis (getD (m .entries) 0 0))),
+  ) refl
     where
       low : axis (getD (m .entries) 0 0) < 128
       low = omega (arith, p .signed .high 0 d0)

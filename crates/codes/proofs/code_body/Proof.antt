@@ -17,12 +17,7 @@ shared-slice-read-checked c =
 
 checked-requires : tie.Need-checked-requires
 unfolding dimensionOf
-checked-requires c κs =
-    let pre = c .before .before .pre in
-    ready-dimension (pre)
-
-axes-requires : tie.Need-axes-requires
-axes-requires c κs = search needs
+checked-requires c κs = search (needs, ready-dimension)
 
 permuted-requires : tie.Need-permuted-requires
 unfolding dimensionOf
@@ -60,12 +55,6 @@ shared-slice-read-size : tie.Need-shared-slice-read-size
 shared-slice-read-size c =
     let pre = c .before .before .before .before .before .before .before .before .before .pre in
     omega (arith, ready-room (pre), ready-range (pre) .two)
-
-size-requires : tie.Need-size-requires
-size-requires c κs = search needs
-
-split-place-requires : tie.Need-split-place-requires
-split-place-requires c κs = search needs
 
 own-byte-requires : tie.Need-own-byte-requires
 unfolding dimensionOf
@@ -135,14 +124,14 @@ code-body-spec =
     (tie.spec
     shared-slice-read-checked
     checked-requires
-    axes-requires
+    (λ c κs. search needs)
     permuted-requires
     returns
     orthants-fit-requires
     returns-2
     shared-slice-read-size
-    size-requires
-    split-place-requires
+    (λ c κs. search needs)
+    (λ c κs. search needs)
     own-byte-requires
     signs-by-requires
     returns-3

@@ -12,30 +12,6 @@ use borrow.Author.Needs.{needs}
 use Rattle.codes.proofs.code_head.Statement.{statement}
 use Rattle.codes.proofs.code_head.Tie as tie
 
-shared-slice-read-dimension : tie.Need-shared-slice-read-dimension
-shared-slice-read-dimension c = search needs
-
-shared-slice-read-size : tie.Need-shared-slice-read-size
-shared-slice-read-size c = search needs
-
-size-requires : tie.Need-size-requires
-size-requires c κs = search needs
-
-size-requires-2 : tie.Need-size-requires-2
-size-requires-2 c κs = search needs
-
-of-requires : tie.Need-of-requires
-of-requires c κs = search needs
-
-enum-told : tie.Need-enum-told
-enum-told c = search needs
-
-enum-known-dim : tie.Need-enum-known-dim
-enum-known-dim c = search needs
-
-greatest-depth-requires : tie.Need-greatest-depth-requires
-greatest-depth-requires c κs = search needs
-
 returns : tie.Need-returns
 unfolding dimensionOf depthOf
 returns c =
@@ -47,9 +23,6 @@ returns c =
     let known = dim .given in
     let axes : axesOf (known .0 .0) ≡ dimensionOf (args .bytes .now) = subst (KnownIs _) (known .1) (of .ensures) ∙ size2 .ensures in
     head-deep _ (rw (← axes) (axes-dimension (known .0 .0))) (rw (← axes) (omega (arith, c .before .greatest-depth .ensures, size .ensures)))
-
-code-length-requires : tie.Need-code-length-requires
-code-length-requires c κs = search needs
 
 returns-2 : tie.Need-returns-2
 unfolding dimensionOf
@@ -76,15 +49,15 @@ pub code-head-spec : {M : Type 1} → statement M
 code-head-spec =
     tie.close
     (tie.spec
-    shared-slice-read-dimension
-    shared-slice-read-size
-    size-requires
-    size-requires-2
-    of-requires
-    enum-told
-    enum-known-dim
-    greatest-depth-requires
+    (λ c. search needs)
+    (λ c. search needs)
+    (λ c κs. search needs)
+    (λ c κs. search needs)
+    (λ c κs. search needs)
+    (λ c. search needs)
+    (λ c. search needs)
+    (λ c κs. search needs)
     returns
-    code-length-requires
+    (λ c κs. search needs)
     returns-2
     returns-3)

@@ -4,32 +4,14 @@ use borrow.Author.Needs.{needs}
 use Rattle.codes.proofs.vertices.Statement.{statement}
 use Rattle.codes.proofs.vertices.Tie as tie
 
-code-check-requires : tie.Need-code-check-requires
-code-check-requires c κs = search needs
-
-refused-requires : tie.Need-refused-requires
-refused-requires c κs = search needs
-
 returns : tie.Need-returns
 returns c = search (needs, vertices-own)
-
-dimension-of-requires : tie.Need-dimension-of-requires
-dimension-of-requires c κs = search needs
-
-points-length-requires : tie.Need-points-length-requires
-points-length-requires c κs = search needs
-
-refused-requires-2 : tie.Need-refused-requires-2
-refused-requires-2 c κs = search needs
 
 returns-2 : tie.Need-returns-2
 returns-2 c = search (needs, vertices-short)
 
 write-cell-requires : tie.Need-write-cell-requires
 write-cell-requires c κs = search (needs, vertices-ready)
-
-same-length : tie.Need-same-length
-same-length c = search needs
 
 returns-3 : tie.Need-returns-3
 returns-3 c = search (needs, vertices-done)
@@ -38,13 +20,13 @@ pub vertices-spec : {M : Type 1} → statement M
 vertices-spec =
     tie.close
     (tie.spec
-    code-check-requires
-    refused-requires
+    (λ c κs. search needs)
+    (λ c κs. search needs)
     returns
-    dimension-of-requires
-    points-length-requires
-    refused-requires-2
+    (λ c κs. search needs)
+    (λ c κs. search needs)
+    (λ c κs. search needs)
     returns-2
     write-cell-requires
-    same-length
+    (λ c. search needs)
     returns-3)

@@ -54,9 +54,6 @@ put-requires c κs =
 add-j : tie.Need-add-j Inv-loop μ-loop
 add-j c = omega (arith, c .before .before .before .before .before .before .before .before .pre .few)
 
-loop-less : tie.Need-loop-less Inv-loop μ-loop
-loop-less c = search needs
-
 loop-again : tie.Need-loop-again Inv-loop μ-loop
 loop-again c =
     let loop = c .before .before .before .before .before .before .loop in
@@ -87,7 +84,7 @@ column-spec =
     coordinate-requires
     put-requires
     add-j
-    loop-less
+    (λ c. search needs)
     loop-again
     same-length
     returns)

@@ -4,14 +4,8 @@ use borrow.Author.Needs.{needs}
 use Rattle.corners.proofs.coordinate.Statement.{statement}
 use Rattle.corners.proofs.coordinate.Tie as tie
 
-near-side-requires : tie.Need-near-side-requires
-near-side-requires c κs = search needs
-
 returns : tie.Need-returns
 returns c = let s = c .before .before .before in line-near (s .args .line) (s .args .j) (s .pre) _ (c .before .before .near-side .ensures) (c .if1 .taken)
-
-step-of-requires : tie.Need-step-of-requires
-step-of-requires c κs = search needs
 
 moved-requires : tie.Need-moved-requires
 moved-requires c κs =
@@ -26,9 +20,6 @@ returns-2 c =
     let if1 = c .before .before .before .before .if1 in
     let s = c .before .before .before .before .before .before .before in line-far (s .args .line) (s .args .j) (s .pre) _ (near-side .ensures) (if1 .left)
     (c .before .before .if2 .taken) _ (c .before .step-of .ensures) _ (c .moved .ensures)
-
-step-of-requires-2 : tie.Need-step-of-requires-2
-step-of-requires-2 c κs = search needs
 
 moved-requires-2 : tie.Need-moved-requires-2
 moved-requires-2 c κs =
@@ -49,11 +40,11 @@ pub coordinate-spec : {M : Type 1} → statement M
 coordinate-spec =
     tie.close
     (tie.spec
-    near-side-requires
+    (λ c κs. search needs)
     returns
-    step-of-requires
+    (λ c κs. search needs)
     moved-requires
     returns-2
-    step-of-requires-2
+    (λ c κs. search needs)
     moved-requires-2
     returns-3)

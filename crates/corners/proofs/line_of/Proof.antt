@@ -14,23 +14,11 @@ shared-slice-read-e c = line-room (c .before .before .pre)
 shared-slice-read-size : tie.Need-shared-slice-read-size
 shared-slice-read-size c = omega (arith, line-room (c .before .before .before .pre))
 
-size-requires : tie.Need-size-requires
-size-requires c κs = search needs
-
-axis-of-requires : tie.Need-axis-of-requires
-axis-of-requires c κs = search needs
-
 low-side-requires : tie.Need-low-side-requires
 low-side-requires c κs = line-low-ready (c .before .before .before .before .before .pre) _ (c .axis-of .ensures)
 
 box-side-requires : tie.Need-box-side-requires
 box-side-requires c κs = line-depth (c .before .before .before .before .before .before .pre) _ (c .before .before .size .ensures)
-
-is-minus-requires : tie.Need-is-minus-requires
-is-minus-requires c κs = search needs
-
-split-place-requires : tie.Need-split-place-requires
-split-place-requires c κs = search needs
 
 returns : tie.Need-returns
 returns c =
@@ -48,10 +36,10 @@ line-of-spec =
     add-e
     shared-slice-read-e
     shared-slice-read-size
-    size-requires
-    axis-of-requires
+    (λ c κs. search needs)
+    (λ c κs. search needs)
     low-side-requires
     box-side-requires
-    is-minus-requires
-    split-place-requires
+    (λ c κs. search needs)
+    (λ c κs. search needs)
     returns)

@@ -18,9 +18,6 @@ abbrev μ-loop : tie.MeasureT-loop
 box-side-requires : tie.Need-box-side-requires Inv-loop μ-loop
 box-side-requires c κs = omega arith
 
-axes-requires : tie.Need-axes-requires Inv-loop μ-loop
-axes-requires c κs = search needs
-
 add-i : tie.Need-add-i Inv-loop μ-loop
 add-i c = let s = c .before .before .before in omega (arith, c .axes .ensures, s .pre .2, s .good)
 
@@ -32,14 +29,8 @@ loop-holds c =
           (c .before .box-side .ensures),
     )
 
-shared-slice-read-is-high : tie.Need-shared-slice-read-is-high Inv-loop μ-loop
-shared-slice-read-is-high c = search needs
-
 is-high-requires : tie.Need-is-high-requires Inv-loop μ-loop
 is-high-requires c κs = let s = c .before .before .before .before .before .before in (s .pre .0, s .pre .1)
-
-add-i-2 : tie.Need-add-i-2 Inv-loop μ-loop
-add-i-2 c = search needs
 
 add-low : tie.Need-add-low Inv-loop μ-loop
 add-low c =
@@ -48,18 +39,12 @@ add-low c =
     let the-loop-test = c .before .before .before .loop-test in
     record { fits = low-room (args .code .now) (loop .i) (the-loop-test .taken) (loop .inv .1) }
 
-loop-less : tie.Need-loop-less Inv-loop μ-loop
-loop-less c = search needs
-
 loop-again : tie.Need-loop-again Inv-loop μ-loop
 loop-again c =
     let args = c .before .before .before .before .before .before .before .before .args in
     let loop = c .before .before .before .before .loop in
     let the-loop-test = c .before .before .before .loop-test in
     (omega arith, low-high (args .code .now) (loop .i) (the-loop-test .taken) (loop .inv .1) _ (c .before .is-high .ensures) (c .if1 .taken))
-
-loop-less-2 : tie.Need-loop-less-2 Inv-loop μ-loop
-loop-less-2 c = search needs
 
 loop-again-2 : tie.Need-loop-again-2 Inv-loop μ-loop
 loop-again-2 c =
@@ -78,15 +63,15 @@ low-side-spec =
     Inv-loop
     μ-loop
     box-side-requires
-    axes-requires
+    (λ c κs. search needs)
     add-i
     loop-holds
-    shared-slice-read-is-high
+    (λ c. search needs)
     is-high-requires
-    add-i-2
+    (λ c. search needs)
     add-low
-    loop-less
+    (λ c. search needs)
     loop-again
-    loop-less-2
+    (λ c. search needs)
     loop-again-2
     returns)

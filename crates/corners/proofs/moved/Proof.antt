@@ -5,9 +5,6 @@ use borrow.Author.Needs.{needs}
 use Rattle.corners.proofs.moved.Statement.{statement}
 use Rattle.corners.proofs.moved.Tie as tie
 
-cast-y : tie.Need-cast-y
-cast-y c = search needs
-
 add-y : tie.Need-add-y
 add-y c = moved-fits (c .args .x) (c .args .step) (omega arith) (c .fits .step) (c .pre)
 
@@ -18,4 +15,9 @@ returns : tie.Need-returns
 returns c = moved-value (c .args .x) (c .args .step) (omega arith) (c .fits .step) (c .pre)
 
 pub moved-spec : {M : Type 1} → statement M
-moved-spec = tie.close (tie.spec cast-y add-y cast-result returns)
+moved-spec = tie.close
+    (tie.spec
+    (λ c. search needs)
+    add-y
+    cast-result
+    returns)

@@ -4,9 +4,6 @@ use borrow.Author.Needs.{needs}
 use Rattle.corners.proofs.near_side.Statement.{statement}
 use Rattle.corners.proofs.near_side.Tie as tie
 
-add-result : tie.Need-add-result
-add-result c = search needs
-
 returns : tie.Need-returns
 returns c = rw (c .if1 .taken) refl
 
@@ -14,4 +11,8 @@ returns-2 : tie.Need-returns-2
 returns-2 c = rw (c .if1 .left) refl
 
 pub near-side-spec : {M : Type 1} → statement M
-near-side-spec = tie.close (tie.spec add-result returns returns-2)
+near-side-spec = tie.close
+    (tie.spec
+    (λ c. search needs)
+    returns
+    returns-2)

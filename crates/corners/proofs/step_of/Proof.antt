@@ -5,9 +5,6 @@ use borrow.Author.Needs.{needs}
 use Rattle.corners.proofs.step_of.Statement.{statement}
 use Rattle.corners.proofs.step_of.Tie as tie
 
-cast-s : tie.Need-cast-s
-cast-s c = search needs
-
 sub-result : tie.Need-sub-result
 sub-result c = step-down-fits (c .before .args .side) (omega arith)
 
@@ -18,4 +15,9 @@ returns-2 : tie.Need-returns-2
 returns-2 c = step-up (c .before .args .side) (omega arith) (c .before .args .minus) (c .if1 .left)
 
 pub step-of-spec : {M : Type 1} → statement M
-step-of-spec = tie.close (tie.spec cast-s sub-result returns returns-2)
+step-of-spec = tie.close
+    (tie.spec
+    (λ c. search needs)
+    sub-result
+    returns
+    returns-2)

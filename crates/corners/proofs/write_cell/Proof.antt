@@ -23,9 +23,6 @@ checked-requires : tie.Need-checked-requires Inv-loop μ-loop
 unfolding dimensionOf
 checked-requires c κs = let s = c .before .before .before in good (s .args .code .now) (s .pre .passing) .dimension
 
-axes-requires : tie.Need-axes-requires Inv-loop μ-loop
-axes-requires c κs = search needs
-
 loop-holds : tie.Need-loop-holds Inv-loop μ-loop
 loop-holds c = (omega arith, columns-none _ _ _ _)
 
@@ -43,12 +40,6 @@ shared-slice-read-axis-of c =
     let axes = c .before .before .before .axes in
     let s = c .before .before .before .before .before .before .before .before in omega
     (arith, axes .ensures ∙ checked .ensures, code-room (s .args .code .now) (s .pre .passing))
-
-axis-of-requires : tie.Need-axis-of-requires Inv-loop μ-loop
-axis-of-requires c κs = search needs
-
-size-requires : tie.Need-size-requires Inv-loop μ-loop
-size-requires c κs = search needs
 
 line-of-requires : tie.Need-line-of-requires Inv-loop μ-loop
 unfolding dimensionOf
@@ -78,9 +69,6 @@ add-i c =
     let axes = c .before .before .before .before .before .before .before .before .before .before .axes in
     let s = c .before .before .before .before .before .before .before .before .before .before .before .before .before .before .before in omega
     (arith, axes .ensures ∙ checked .ensures, code-dimension (s .args .code .now) (s .pre .passing) .few)
-
-loop-less : tie.Need-loop-less Inv-loop μ-loop
-loop-less c = search needs
 
 loop-again : tie.Need-loop-again Inv-loop μ-loop
 unfolding dimensionOf
@@ -117,16 +105,16 @@ write-cell-spec =
     μ-loop
     shared-slice-read-checked
     checked-requires
-    axes-requires
+    (λ c κs. search needs)
     loop-holds
     add-axis-of
     shared-slice-read-axis-of
-    axis-of-requires
-    size-requires
+    (λ c κs. search needs)
+    (λ c κs. search needs)
     line-of-requires
     column-requires
     add-i
-    loop-less
+    (λ c. search needs)
     loop-again
     same-length
     returns)

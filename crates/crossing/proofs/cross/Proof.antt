@@ -7,26 +7,8 @@ use borrow.Author.Needs.{needs}
 use Rattle.crossing.proofs.cross.Statement.{statement}
 use Rattle.crossing.proofs.cross.Tie as tie
 
-code-check-requires : tie.Need-code-check-requires
-code-check-requires c κs = search needs
-
-refused-requires : tie.Need-refused-requires
-refused-requires c κs = search needs
-
 returns : tie.Need-returns
 returns c = search (needs, cross-own)
-
-dimension-of-requires : tie.Need-dimension-of-requires
-dimension-of-requires c κs = search needs
-
-axes-requires : tie.Need-axes-requires
-axes-requires c κs = search needs
-
-size-requires : tie.Need-size-requires
-size-requires c κs = search needs
-
-refused-requires-2 : tie.Need-refused-requires-2
-refused-requires-2 c κs = search needs
 
 returns-2 : tie.Need-returns-2
 returns-2 c = search (needs, cross-step)
@@ -34,26 +16,11 @@ returns-2 c = search (needs, cross-step)
 sub-cross-outside : tie.Need-sub-cross-outside
 sub-cross-outside c = search (needs, facing-some)
 
-add-cross-outside : tie.Need-add-cross-outside
-add-cross-outside c = search needs
-
 shared-slice-read-cross-outside : tie.Need-shared-slice-read-cross-outside
 shared-slice-read-cross-outside c = search (needs, facing-last)
 
 cross-outside-requires : tie.Need-cross-outside-requires
 cross-outside-requires c κs = search (needs, leaving-last)
-
-same-length : tie.Need-same-length
-same-length c = search needs
-
-returns-3 : tie.Need-returns-3
-returns-3 c = search needs
-
-depth-of-requires : tie.Need-depth-of-requires
-depth-of-requires c κs = search needs
-
-split-place-requires : tie.Need-split-place-requires
-split-place-requires c κs = search needs
 
 shared-slice-read-negate : tie.Need-shared-slice-read-negate
 shared-slice-read-negate c = search (needs, facing-first)
@@ -80,12 +47,6 @@ cross-outside-requires-2 c κs =
     leaving-first _ (check .ensures) passed dimension axes _ _ _ _ _ facet (if4 .taken)
     (depth-of .ensures) (split-place .ensures) (if5 .taken) (c .before .negate .ensures)
 
-same-length-2 : tie.Need-same-length-2
-same-length-2 c = search needs
-
-returns-4 : tie.Need-returns-4
-returns-4 c = search needs
-
 cross-inside-requires : tie.Need-cross-inside-requires
 cross-inside-requires c κs =
     let code-check = c .before .before .before .before .before .before .before .before .before .before .code-check in
@@ -104,37 +65,31 @@ cross-inside-requires c κs =
     staying _ (check .ensures) passed dimension axes (depth-of .ensures) (c .before .before .split-place .ensures) facet (if2 .left) (if3 .left)
     (⊎-elim (λ w z f. w .1 .left f) (λ w z f. w .left z) (c .before .if4 .came))
 
-same-length-3 : tie.Need-same-length-3
-same-length-3 c = search needs
-
-returns-5 : tie.Need-returns-5
-returns-5 c = search needs
-
 pub cross-spec : {M : Type 1} → statement M
 cross-spec =
     tie.close
     (tie.spec
-    code-check-requires
-    refused-requires
+    (λ c κs. search needs)
+    (λ c κs. search needs)
     returns
-    dimension-of-requires
-    axes-requires
-    size-requires
-    refused-requires-2
+    (λ c κs. search needs)
+    (λ c κs. search needs)
+    (λ c κs. search needs)
+    (λ c κs. search needs)
     returns-2
     sub-cross-outside
-    add-cross-outside
+    (λ c. search needs)
     shared-slice-read-cross-outside
     cross-outside-requires
-    same-length
-    returns-3
-    depth-of-requires
-    split-place-requires
+    (λ c. search needs)
+    (λ c. search needs)
+    (λ c κs. search needs)
+    (λ c κs. search needs)
     shared-slice-read-negate
     negate-requires
     cross-outside-requires-2
-    same-length-2
-    returns-4
+    (λ c. search needs)
+    (λ c. search needs)
     cross-inside-requires
-    same-length-3
-    returns-5)
+    (λ c. search needs)
+    (λ c. search needs))

@@ -4,17 +4,11 @@ use borrow.Author.Needs.{needs}
 use Rattle.crossing.proofs.cross_inside.Statement.{statement}
 use Rattle.crossing.proofs.cross_inside.Tie as tie
 
-refused-requires : tie.Need-refused-requires
-refused-requires c κs = search needs
-
 returns : tie.Need-returns
 returns c = search (needs, staying-short)
 
 own-byte-requires : tie.Need-own-byte-requires
 own-byte-requires c κs = search (needs, staying-few, staying-room)
-
-size-requires : tie.Need-size-requires
-size-requires c κs = search needs
 
 copy-front-requires : tie.Need-copy-front-requires
 copy-front-requires c κs = search (needs, staying-long, staying-most)
@@ -25,9 +19,6 @@ rearrange-requires c κs = search (needs, staying-movable)
 cast-t17 : tie.Need-cast-t17
 cast-t17 c = search (needs, staying-byte)
 
-same-length : tie.Need-same-length
-same-length c = search needs
-
 returns-2 : tie.Need-returns-2
 returns-2 c = search (needs, staying-done)
 
@@ -35,12 +26,12 @@ pub cross-inside-spec : {M : Type 1} → statement M
 cross-inside-spec =
     tie.close
     (tie.spec
-    refused-requires
+    (λ c κs. search needs)
     returns
     own-byte-requires
-    size-requires
+    (λ c κs. search needs)
     copy-front-requires
     rearrange-requires
     cast-t17
-    same-length
+    (λ c. search needs)
     returns-2)

@@ -13,14 +13,8 @@ add-runs-out c = omega (arith, leaving-few (c .before .before .pre))
 runs-out-requires : tie.Need-runs-out-requires
 runs-out-requires c κs = search (needs, leaving-room)
 
-refused-requires : tie.Need-refused-requires
-refused-requires c κs = search needs
-
 returns : tie.Need-returns
 returns c = search (needs, leaving-face)
-
-refused-requires-2 : tie.Need-refused-requires-2
-refused-requires-2 c κs = search needs
 
 returns-2 : tie.Need-returns-2
 returns-2 c = search (needs, leaving-short)
@@ -67,9 +61,9 @@ cross-outside-spec =
     (tie.spec
     add-runs-out
     runs-out-requires
-    refused-requires
+    (λ c κs. search needs)
     returns
-    refused-requires-2
+    (λ c κs. search needs)
     returns-2
     add-negate
     shared-slice-read-negate

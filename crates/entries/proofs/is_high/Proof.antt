@@ -4,14 +4,12 @@ use Rattle.entries.specs.Masks.{high-masked}
 use Rattle.entries.proofs.is_high.Statement.{statement}
 use Rattle.entries.proofs.is_high.Tie as tie
 
-sub-result : tie.Need-sub-result
-sub-result c = search needs
-
-shr-result : tie.Need-shr-result
-shr-result c = search needs
-
 returns : tie.Need-returns
 returns c = high-masked (c .args .orthant) (c .args .axis)
 
 pub is-high-spec : {M : Type 1} → statement M
-is-high-spec = tie.close (tie.spec sub-result shr-result returns)
+is-high-spec = tie.close
+    (tie.spec
+    (λ c. search needs)
+    (λ c. search needs)
+    returns)

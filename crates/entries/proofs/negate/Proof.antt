@@ -5,9 +5,6 @@ use Rattle.entries.specs.Signs.{negation-fits, negation-again, negation-
 use Rattle.entries.proofs.negate.Statement.{statement}
 use Rattle.entries.proofs.negate.Tie as tie
 
-signed-of-requires : tie.Need-signed-of-requires
-signed-of-requires c κs = search needs
-
 sub-byte-of : tie.Need-sub-byte-of
 sub-byte-of c = negation-fits (c .before .args .e) (omega arith) _ (c .signed-of .ensures)
 
@@ -18,4 +15,9 @@ returns : tie.Need-returns
 returns c = negation-byte (c .before .before .args .e) (omega arith) _ (c .before .signed-of .ensures) (c .before .before .pre) _ (c .byte-of .ensures)
 
 pub negate-spec : {M : Type 1} → statement M
-negate-spec = tie.close (tie.spec signed-of-requires sub-byte-of byte-of-requires returns)
+negate-spec = tie.close
+    (tie.spec
+    (λ c κs. search needs)
+    sub-byte-of
+    byte-of-requires
+    returns)

@@ -5,14 +5,8 @@ use borrow.Author.Needs.{needs}
 use Rattle.entries.proofs.signed_of.Statement.{statement}
 use Rattle.entries.proofs.signed_of.Tie as tie
 
-cast-result : tie.Need-cast-result
-cast-result c = search needs
-
 returns : tie.Need-returns
 returns c = plus-value (c .before .args .e) (c .if1 .taken)
-
-cast-a : tie.Need-cast-a
-cast-a c = search needs
 
 sub-result : tie.Need-sub-result
 sub-result c = minus-fits (c .before .args .e) (c .if1 .left) (omega arith)
@@ -21,4 +15,10 @@ returns-2 : tie.Need-returns-2
 returns-2 c = minus-value (c .before .args .e) (c .if1 .left) (omega arith)
 
 pub signed-of-spec : {M : Type 1} → statement M
-signed-of-spec = tie.close (tie.spec cast-result returns cast-a sub-result returns-2)
+signed-of-spec = tie.close
+    (tie.spec
+    (λ c. search needs)
+    returns
+    (λ c. search needs)
+    sub-result
+    returns-2)

@@ -8,18 +8,12 @@ use borrow.Author.Needs.{needs}
 use Rattle.listing.proofs.list_sheet.Statement.{statement}
 use Rattle.listing.proofs.list_sheet.Tie as tie
 
-put-refused-requires : tie.Need-put-refused-requires
-put-refused-requires c κs = search needs
-
 returns : tie.Need-returns
 returns c =
     let args = c .before .before .before .before .args in
     let if1 = c .before .before .if1 in
     let room : 2 * sheetLimit + 32 ≤ length (args .out .now) = search needs in
     listed (large (if1 .taken)) (omega (arith, c .put-refused .ensures .0 .next, c .put-refused .ensures .1)) (c .put-refused .ensures .0)
-
-sheet-check-requires : tie.Need-sheet-check-requires
-sheet-check-requires c κs = search needs
 
 put-refused-requires-2 : tie.Need-put-refused-requires-2
 put-refused-requires-2 c κs =
@@ -37,9 +31,6 @@ returns-2 c =
     let if2 = c .before .before .if2 in
     let room : 2 * sheetLimit + 32 ≤ length (args .out .now) = search needs in
     listed (refused (if1 .left) _ (sheet-check .ensures) (if2 .taken)) (omega (arith, c .put-refused2 .ensures .0 .next, c .put-refused2 .ensures .1)) (c .put-refused2 .ensures .0)
-
-first-edition-requires : tie.Need-first-edition-requires
-first-edition-requires c κs = search needs
 
 put-good-requires : tie.Need-put-good-requires
 put-good-requires c κs =
@@ -67,11 +58,11 @@ pub list-sheet-spec : {M : Type 1} → statement M
 list-sheet-spec =
     tie.close
     (tie.spec
-    put-refused-requires
+    (λ c κs. search needs)
     returns
-    sheet-check-requires
+    (λ c κs. search needs)
     put-refused-requires-2
     returns-2
-    first-edition-requires
+    (λ c κs. search needs)
     put-good-requires
     returns-3)

@@ -11,12 +11,6 @@ record-parts-requires c κs =
     let pre = c .before .before .pre in
     first-record (pre .0) .passes
 
-slice-aggregate-put-line : tie.Need-slice-aggregate-put-line
-slice-aggregate-put-line c = search needs
-
-size-requires : tie.Need-size-requires
-size-requires c κs = search needs
-
 put-line-requires : tie.Need-put-line-requires
 put-line-requires c κs =
     let pre = c .before .before .before .before .before .before .pre in
@@ -35,9 +29,6 @@ put-leaves-requires c κs =
     let is = size .ensures ∙ first-record (pre .0) .dimension-is _ (record-parts .ensures) in
     (pre .0, leaves-fit _ _ refl (args .sheet .now) _ (args .out .now) (pre .0) (pre .1) _ is (put-line .ensures))
 
-slice-aggregate-put-line-2 : tie.Need-slice-aggregate-put-line-2
-slice-aggregate-put-line-2 c = search needs
-
 put-line-requires-2 : tie.Need-put-line-requires-2
 put-line-requires-2 c κs =
     let size = c .before .before .before .before .before .before .before .before .before .size in
@@ -48,9 +39,6 @@ put-line-requires-2 c κs =
     let put-leaves = c .before .before .before .before .put-leaves in
     let is = size .ensures ∙ first-record (pre .0) .dimension-is _ (record-parts .ensures) in
     last-fits _ _ refl (args .sheet .now) _ (args .out .now) (pre .0) (pre .1) _ is (put-line .ensures) (put-leaves .ensures)
-
-same-length : tie.Need-same-length
-same-length c = search needs
 
 returns : tie.Need-returns
 returns c =
@@ -69,11 +57,11 @@ put-good-spec =
     tie.close
     (tie.spec
     record-parts-requires
-    slice-aggregate-put-line
-    size-requires
+    (λ c. search needs)
+    (λ c κs. search needs)
     put-line-requires
     put-leaves-requires
-    slice-aggregate-put-line-2
+    (λ c. search needs)
     put-line-requires-2
-    same-length
+    (λ c. search needs)
     returns)

@@ -23,12 +23,6 @@ loop-holds c =
 sub-record-parts : tie.Need-sub-record-parts Inv-loop μ-loop
 sub-record-parts c = c .before .loop .inv .inside
 
-part-record-parts-start : tie.Need-part-record-parts-start Inv-loop μ-loop
-part-record-parts-start c = search needs
-
-part-record-parts-end : tie.Need-part-record-parts-end Inv-loop μ-loop
-part-record-parts-end c = search needs
-
 record-parts-requires : tie.Need-record-parts-requires Inv-loop μ-loop
 record-parts-requires c κs =
     let loop = c .before .before .loop in
@@ -48,9 +42,6 @@ add-end c =
 
 sub-put-leaf : tie.Need-sub-put-leaf Inv-loop μ-loop
 sub-put-leaf c = omega arith
-
-part-put-leaf-start : tie.Need-part-put-leaf-start Inv-loop μ-loop
-part-put-leaf-start c = search needs
 
 part-put-leaf-end : tie.Need-part-put-leaf-end Inv-loop μ-loop
 part-put-leaf-end c =
@@ -72,9 +63,6 @@ add-offset c =
     let loop-test = c .before .before .before .before .before .before .before .before .before .loop-test in
     let record-parts = c .before .before .before .before .before .before .before .record-parts in
     omega (arith, on-line (loop .inv) (loop-test .taken) .whole-fits _ (record-parts .ensures))
-
-add-number : tie.Need-add-number Inv-loop μ-loop
-add-number c = search needs
 
 loop-less : tie.Need-loop-less Inv-loop μ-loop
 loop-less c =
@@ -105,17 +93,17 @@ put-leaves-spec =
     μ-loop
     loop-holds
     sub-record-parts
-    part-record-parts-start
-    part-record-parts-end
+    (λ c. search needs)
+    (λ c. search needs)
     record-parts-requires
     add-code
     add-end
     sub-put-leaf
-    part-put-leaf-start
+    (λ c. search needs)
     part-put-leaf-end
     put-leaf-requires
     add-offset
-    add-number
+    (λ c. search needs)
     loop-less
     loop-again
     same-length

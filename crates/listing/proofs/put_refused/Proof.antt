@@ -5,12 +5,6 @@ use borrow.Author.Needs.{needs}
 use Rattle.listing.proofs.put_refused.Statement.{statement}
 use Rattle.listing.proofs.put_refused.Tie as tie
 
-slice-aggregate-put : tie.Need-slice-aggregate-put
-slice-aggregate-put c = search needs
-
-put-requires : tie.Need-put-requires
-put-requires c κs = search needs
-
 put-decimal-requires : tie.Need-put-decimal-requires
 put-decimal-requires c κs =
     let args = c .before .before .before .before .before .before .before .args in
@@ -18,9 +12,6 @@ put-decimal-requires c κs =
     let pre = c .before .before .before .before .before .before .before .pre in
     let put = c .before .before .before .put in
     refused-fits (args .refusal) (args .offset) (args .out .now) (fits .refusal .fits) (pre .0) (pre .1) .second (put .ensures)
-
-slice-aggregate-put-2 : tie.Need-slice-aggregate-put-2
-slice-aggregate-put-2 c = search needs
 
 put-requires-2 : tie.Need-put-requires-2
 put-requires-2 c κs =
@@ -41,9 +32,6 @@ put-decimal-requires-2 c κs =
     let put2 = c .before .before .before .put2 in
     refused-fits (args .refusal) (args .offset) (args .out .now) (fits .refusal .fits) (pre .0) (pre .1) .fourth (put .ensures) (put-decimal .ensures) (put2 .ensures)
 
-slice-aggregate-put-3 : tie.Need-slice-aggregate-put-3
-slice-aggregate-put-3 c = search needs
-
 put-requires-3 : tie.Need-put-requires-3
 put-requires-3 c κs =
     let args = c .before .before .before .before .before .before .before .before .before .before .before .before .before .before .before .before .before .before .before .before .before .args in
@@ -54,9 +42,6 @@ put-requires-3 c κs =
     let put2 = c .before .before .before .before .before .before .before .before .put2 in
     let put-decimal2 = c .before .before .before .before .put-decimal2 in
     refused-fits (args .refusal) (args .offset) (args .out .now) (fits .refusal .fits) (pre .0) (pre .1) .fifth (put .ensures) (put-decimal .ensures) (put2 .ensures) (put-decimal2 .ensures)
-
-same-length : tie.Need-same-length
-same-length c = search needs
 
 returns : tie.Need-returns
 returns c =
@@ -75,13 +60,13 @@ pub put-refused-spec : {M : Type 1} → statement M
 put-refused-spec =
     tie.close
     (tie.spec
-    slice-aggregate-put
-    put-requires
+    (λ c. search needs)
+    (λ c κs. search needs)
     put-decimal-requires
-    slice-aggregate-put-2
+    (λ c. search needs)
     put-requires-2
     put-decimal-requires-2
-    slice-aggregate-put-3
+    (λ c. search needs)
     put-requires-3
-    same-length
+    (λ c. search needs)
     returns)

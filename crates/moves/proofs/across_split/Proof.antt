@@ -5,33 +5,12 @@ use borrow.Author.Needs.{needs}
 use Rattle.moves.proofs.across_split.Statement.{statement}
 use Rattle.moves.proofs.across_split.Tie as tie
 
-add-same-sign : tie.Need-add-same-sign
-add-same-sign c = search needs
-
-slice-read-same-sign : tie.Need-slice-read-same-sign
-slice-read-same-sign c = search needs
-
-same-sign-requires : tie.Need-same-sign-requires
-same-sign-requires c κs = search needs
-
-exchange-requires : tie.Need-exchange-requires
-exchange-requires c κs = search needs
-
-same-length : tie.Need-same-length
-same-length c = search needs
-
 returns : tie.Need-returns
 returns c =
     let pre = c .before .before .before .before .before .before .before .before .pre in
     let same-sign = c .before .before .before .before .before .same-sign in
     let if1 = c .before .before .before .before .if1 in
     split-own _ (pre) (sym (same-sign .ensures) ∙ if1 .taken) _ (c .before .before .exchange .ensures)
-
-unturn-requires : tie.Need-unturn-requires
-unturn-requires c κs = search needs
-
-same-length-2 : tie.Need-same-length-2
-same-length-2 c = search needs
 
 returns-2 : tie.Need-returns-2
 returns-2 c =
@@ -44,12 +23,12 @@ pub across-split-spec : {M : Type 1} → statement M
 across-split-spec =
     tie.close
     (tie.spec
-    add-same-sign
-    slice-read-same-sign
-    same-sign-requires
-    exchange-requires
-    same-length
+    (λ c. search needs)
+    (λ c. search needs)
+    (λ c κs. search needs)
+    (λ c κs. search needs)
+    (λ c. search needs)
     returns
-    unturn-requires
-    same-length-2
+    (λ c κs. search needs)
+    (λ c. search needs)
     returns-2)

@@ -16,14 +16,8 @@ Inv-loop buf₀ from n e a t₀ buf t = (from ≤ t) × (t ≤ n) × (length buf
 abbrev μ-loop : tie.MeasureT-loop
 μ-loop buf₀ from n e a t₀ buf t = t
 
-axis-of-requires : tie.Need-axis-of-requires Inv-loop μ-loop
-axis-of-requires c κs = search needs
-
 loop-holds : tie.Need-loop-holds Inv-loop μ-loop
 loop-holds c = (omega (arith, c .before .before .pre .0), omega arith, refl, carrying-none _ _ _ _ (c .before .before .pre .1))
-
-sub-t : tie.Need-sub-t Inv-loop μ-loop
-sub-t c = search needs
 
 slice-read-orthant : tie.Need-slice-read-orthant Inv-loop μ-loop
 slice-read-orthant c = omega (arith, c .before .before .before .before .before .pre .1)
@@ -51,9 +45,6 @@ returns c =
     carrying-stopped _ _ _ _ (pre .1) (loop .inv .3) (loop .t - 1) (omega arith) (loop .inv .1) _ _ (axis-of .ensures) (c .before .before .flip .ensures)
     (sym (c .before .same-sign .ensures) ∙ not-true _ (c .if1 .taken)) _ (omega (arith, pre .0))
 
-loop-less : tie.Need-loop-less Inv-loop μ-loop
-loop-less c = search needs
-
 loop-again : tie.Need-loop-again Inv-loop μ-loop
 loop-again c =
     let pre = c .before .before .before .before .before .before .before .before .pre in
@@ -78,16 +69,16 @@ carry-spec =
     (tie.spec
     Inv-loop
     μ-loop
-    axis-of-requires
+    (λ c κs. search needs)
     loop-holds
-    sub-t
+    (λ c. search needs)
     slice-read-orthant
     flip-requires
     slice-write-buf
     same-sign-requires
     same-length
     returns
-    loop-less
+    (λ c. search needs)
     loop-again
     same-length-2
     returns-2)

@@ -19,12 +19,6 @@ abbrev μ-loop : tie.MeasureT-loop
 loop-holds : tie.Need-loop-holds Inv-loop μ-loop
 loop-holds c = (c .before .pre .0, omega arith, running-none _ _ _)
 
-sub-last : tie.Need-sub-last Inv-loop μ-loop
-sub-last c = search needs
-
-shared-slice-read-same-sign : tie.Need-shared-slice-read-same-sign Inv-loop μ-loop
-shared-slice-read-same-sign c = search needs
-
 same-sign-requires : tie.Need-same-sign-requires Inv-loop μ-loop
 same-sign-requires c κs = (c .before .before .before .before .pre .1, c .before .before .before .before .pre .2)
 
@@ -34,9 +28,6 @@ returns c =
     let the-loop-test = c .before .before .before .loop-test in
     running-stopped _ _ _ (loop .inv .2) (loop .last - 1) (omega arith) (loop .inv .1) (sym (c .before .same-sign .ensures) ∙ not-true _ (c .if1 .taken)) _
     (the-loop-test .taken)
-
-loop-less : tie.Need-loop-less Inv-loop μ-loop
-loop-less c = search needs
 
 loop-again : tie.Need-loop-again Inv-loop μ-loop
 loop-again c =
@@ -57,10 +48,10 @@ runs-out-spec =
     Inv-loop
     μ-loop
     loop-holds
-    sub-last
-    shared-slice-read-same-sign
+    (λ c. search needs)
+    (λ c. search needs)
     same-sign-requires
     returns
-    loop-less
+    (λ c. search needs)
     loop-again
     returns-2)

@@ -13,9 +13,6 @@ use Rattle.steps.proofs.box_step.Tie as tie
 returns : tie.Need-returns
 returns c = box-kept _ _ (omega (arith, (axes-range (c .before .before .args .dim)) .two)) _ (λ q. c .if1 .taken (c .before .before .pre .2 ∙ q))
 
-axes-requires : tie.Need-axes-requires
-axes-requires c κs = search needs
-
 orthant-of-requires : tie.Need-orthant-of-requires
 orthant-of-requires c κs =
     let args = c .before .before .before .before .args in
@@ -30,9 +27,6 @@ orthant-of-requires c κs =
 
 add-at : tie.Need-add-at
 add-at c = omega (arith, c .before .before .axes .ensures, (axes-range (c .before .before .before .before .before .args .dim)) .few)
-
-box-depth-requires : tie.Need-box-depth-requires
-box-depth-requires c κs = search needs
 
 add-at-2 : tie.Need-add-at-2
 add-at-2 c =
@@ -49,9 +43,6 @@ slice-write-buf c =
     rw (axes .ensures, c .box-depth .ensures)
     (box-room (axesOf (args .dim)) (args .depth) (omega (arith, (axes-range (args .dim)) .two)) (args .buf .now) (sym (pre .2) ∙ if1 .left) (pre .0))
 
-same-length : tie.Need-same-length
-same-length c = search needs
-
 returns-2 : tie.Need-returns-2
 returns-2 c =
     let args = c .before .before .before .before .before .before .args in
@@ -66,11 +57,11 @@ box-step-spec =
     tie.close
     (tie.spec
     returns
-    axes-requires
+    (λ c κs. search needs)
     orthant-of-requires
     add-at
-    box-depth-requires
+    (λ c κs. search needs)
     add-at-2
     slice-write-buf
-    same-length
+    (λ c. search needs)
     returns-2)

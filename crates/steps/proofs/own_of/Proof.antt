@@ -12,18 +12,15 @@ use Rattle.steps.proofs.own_of.Tie as tie
 returns : tie.Need-returns
 returns c = own-no-box (c .before .args .axes) (c .before .args .boxes) (c .before .args .code .now) (c .if1 .taken)
 
-add-result : tie.Need-add-result
-add-result c = search needs
-
-add-result-2 : tie.Need-add-result-2
-add-result-2 c = search needs
-
-shared-slice-read-result : tie.Need-shared-slice-read-result
-shared-slice-read-result c = search needs
-
 returns-2 : tie.Need-returns-2
 returns-2 c = own-last-box (c .before .before .args .axes) (c .before .before .args .boxes) (c .before .before .args .code .now) (c .before .before .pre) (c .before .if1 .left)
 
 pub own-of-spec : {M : Type 1} → statement M
 own-of-spec =
-    tie.close (tie.spec returns add-result add-result-2 shared-slice-read-result returns-2)
+    tie.close
+    (tie.spec
+    returns
+    (λ c. search needs)
+    (λ c. search needs)
+    (λ c. search needs)
+    returns-2)

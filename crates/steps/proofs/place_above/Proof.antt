@@ -10,11 +10,12 @@ use Rattle.steps.proofs.place_above.Tie as tie
 returns : tie.Need-returns
 returns c = place-first (c .before .args .k) (c .before .args .axes) 0 (c .if1 .taken)
 
-add-result : tie.Need-add-result
-add-result c = search needs
-
 returns-2 : tie.Need-returns-2
 returns-2 c = place-on (c .before .args .k) (c .before .args .axes) 0 (c .if1 .left)
 
 pub place-above-spec : {M : Type 1} → statement M
-place-above-spec = tie.close (tie.spec returns add-result returns-2)
+place-above-spec = tie.close
+    (tie.spec
+    returns
+    (λ c. search needs)
+    returns-2)

@@ -10,11 +10,12 @@ use Rattle.steps.proofs.place_after.Tie as tie
 returns : tie.Need-returns
 returns c = rw (eq-eqb (c .before .args .k) 1 (c .if1 .taken)) refl
 
-sub-result : tie.Need-sub-result
-sub-result c = search needs
-
 returns-2 : tie.Need-returns-2
 returns-2 c = rw (ne-eqb (c .before .args .k) 1 (c .if1 .left)) refl
 
 pub place-after-spec : {M : Type 1} → statement M
-place-after-spec = tie.close (tie.spec returns sub-result returns-2)
+place-after-spec = tie.close
+    (tie.spec
+    returns
+    (λ c. search needs)
+    returns-2)

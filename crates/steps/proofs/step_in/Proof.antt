@@ -30,9 +30,6 @@ box-step-requires c κs =
     let t = turned-ready (axesOf (args .dim)) (args .depth) (args .which) (omega (arith, (axes-range (args .dim)) .two)) (args .buf .now) (pre .0)
     (omega (arith, (axes-range (args .dim)) .few)) (pre .1) in rw (turn-step .ensures, pre .2) (t .0, t .1, refl)
 
-same-length : tie.Need-same-length
-same-length c = search needs
-
 returns : tie.Need-returns
 returns c =
     let pre = c .before .before .before .before .before .before .before .before .before .pre in
@@ -43,4 +40,9 @@ returns c =
     (omega (arith, (axes-range (args .dim)) .few)) (pre .1))
 
 pub step-in-spec : {M : Type 1} → statement M
-step-in-spec = tie.close (tie.spec turn-step-requires box-step-requires same-length returns)
+step-in-spec = tie.close
+    (tie.spec
+    turn-step-requires
+    box-step-requires
+    (λ c. search needs)
+    returns)

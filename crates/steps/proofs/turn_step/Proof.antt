@@ -16,9 +16,6 @@ sub-turn c = omega (arith, c .before .before .before .pre .0)
 turn-requires : tie.Need-turn-requires
 turn-requires c κs = (omega (arith, c .before .before .before .pre .0, c .before .before .before .pre .1), c .before .before .before .pre .2)
 
-same-length : tie.Need-same-length
-same-length c = search needs
-
 returns-2 : tie.Need-returns-2
 returns-2 c =
     let args = c .before .before .before .before .before .before .args in
@@ -27,4 +24,10 @@ returns-2 c =
     c .before .before .turn .ensures ∙ step-turned (args .k) (args .which) (args .buf .now) (if1 .left) (pre .0)
 
 pub turn-step-spec : {M : Type 1} → statement M
-turn-step-spec = tie.close (tie.spec returns sub-turn turn-requires same-length returns-2)
+turn-step-spec = tie.close
+    (tie.spec
+    returns
+    sub-turn
+    turn-requires
+    (λ c. search needs)
+    returns-2)

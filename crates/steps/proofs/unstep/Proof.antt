@@ -8,12 +8,6 @@ use borrow.Author.Needs.{needs}
 use Rattle.steps.proofs.unstep.Statement.{statement}
 use Rattle.steps.proofs.unstep.Tie as tie
 
-add-same-sign : tie.Need-add-same-sign
-add-same-sign c = search needs
-
-slice-read-same-sign : tie.Need-slice-read-same-sign
-slice-read-same-sign c = search needs
-
 same-sign-requires : tie.Need-same-sign-requires
 same-sign-requires c κs = (c .before .before .pre .1, c .before .before .pre .2)
 
@@ -23,9 +17,6 @@ returns c = back-zero _ _ _ _ (sym (c .before .same-sign .ensures) ∙ c .if1 .t
 unturn-requires : tie.Need-unturn-requires
 unturn-requires c κs = (c .before .before .before .before .before .pre .0, c .before .before .before .before .before .pre .1)
 
-same-length : tie.Need-same-length
-same-length c = search needs
-
 returns-2 : tie.Need-returns-2
 returns-2 c = back-one _ _ _ _ (sym (c .before .before .before .before .before .same-sign .ensures) ∙ c .before .before .before .before .if1 .left) _ (c .before .before .unturn .ensures)
 
@@ -33,10 +24,10 @@ pub unstep-spec : {M : Type 1} → statement M
 unstep-spec =
     tie.close
     (tie.spec
-    add-same-sign
-    slice-read-same-sign
+    (λ c. search needs)
+    (λ c. search needs)
     same-sign-requires
     returns
     unturn-requires
-    same-length
+    (λ c. search needs)
     returns-2)

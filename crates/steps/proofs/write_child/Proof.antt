@@ -23,9 +23,6 @@ slice-write-out c =
     let copy-front = c .before .before .before .copy-front in
     omega (arith, ap length (copy-front .ensures), child-copied (pre), child-two (pre), child-fits (pre))
 
-split-place-requires : tie.Need-split-place-requires
-split-place-requires c κs = search needs
-
 step-in-requires : tie.Need-step-in-requires
 step-in-requires c κs =
     let pre = c .before .before .before .before .before .before .before .before .before .pre in
@@ -53,7 +50,7 @@ write-child-spec =
     shared-slice-read-out
     add-out
     slice-write-out
-    split-place-requires
+    (λ c κs. search needs)
     step-in-requires
     same-length
     returns)

@@ -16,12 +16,6 @@ counted : (d D x q : ℕ) → x ≡ d → q ≡ boxDepth d D → 2 + x + q ≡ c
 unfolding codeLength
 counted d D x q e f = rw (e, f) refl
 
-axes-requires : tie.Need-axes-requires
-axes-requires c κs = search needs
-
-box-depth-requires : tie.Need-box-depth-requires
-box-depth-requires c κs = search needs
-
 own-of-requires : tie.Need-own-of-requires
 own-of-requires c κs = rw (counted _ _ _ _ (c .before .axes .ensures) (c .box-depth .ensures)) (parent-front (c .before .before .before .before .pre))
 
@@ -96,8 +90,8 @@ pub write-parent-spec : {M : Type 1} → statement M
 write-parent-spec =
     tie.close
     (tie.spec
-    axes-requires
-    box-depth-requires
+    (λ c κs. search needs)
+    (λ c κs. search needs)
     own-of-requires
     mul-k
     sub-k

@@ -8,9 +8,6 @@ use borrow.Author.Needs.{needs}
 use Rattle.dimension.proofs.Dim.box_depth.Statement.{statement}
 use Rattle.dimension.proofs.Dim.box_depth.Tie as tie
 
-twelfths-requires : tie.Need-twelfths-requires
-twelfths-requires c κs = search needs
-
 mul-result : tie.Need-mul-result
 mul-result c =
     let args = c .before .before .args in
@@ -18,9 +15,6 @@ mul-result c =
 
 returns : tie.Need-returns
 returns c = box-depth-by _ _ _ (omega (arith, (axes-range (c .before .before .args .self)) .two)) (c .twelfths .ensures)
-
-axes-requires : tie.Need-axes-requires
-axes-requires c κs = search needs
 
 div-result : tie.Need-div-result
 div-result c = omega (arith, c .axes .ensures, (axes-range (c .before .before .args .self)) .two)
@@ -31,4 +25,11 @@ returns-2 c = rw (c .axes .ensures) refl
 
 pub box-depth-spec : {M : Type 1} → statement M
 box-depth-spec =
-    tie.close (tie.spec twelfths-requires mul-result returns axes-requires div-result returns-2)
+    tie.close
+    (tie.spec
+    (λ c κs. search needs)
+    mul-result
+    returns
+    (λ c κs. search needs)
+    div-result
+    returns-2)

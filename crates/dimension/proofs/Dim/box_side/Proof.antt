@@ -6,9 +6,6 @@ use borrow.Author.Needs.{needs}
 use Rattle.dimension.proofs.Dim.box_side.Statement.{statement}
 use Rattle.dimension.proofs.Dim.box_side.Tie as tie
 
-box-depth-requires : tie.Need-box-depth-requires
-box-depth-requires c κs = search needs
-
 cast-result : tie.Need-cast-result
 cast-result c = omega (arith, boxes-few (axesOf (c .before .args .self)) (c .before .args .depth) (axes-range (c .before .args .self)) (c .before .pre))
 
@@ -20,4 +17,9 @@ unfolding boxSide sideAfter cubeSide halvings
 returns c = simp (c .box-depth .ensures)
 
 pub box-side-spec : {M : Type 1} → statement M
-box-side-spec = tie.close (tie.spec box-depth-requires cast-result shr-result returns)
+box-side-spec = tie.close
+    (tie.spec
+    (λ c κs. search needs)
+    cast-result
+    shr-result
+    returns)

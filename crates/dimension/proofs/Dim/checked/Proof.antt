@@ -5,14 +5,12 @@ use borrow.Author.Needs.{needs}
 use Rattle.dimension.proofs.Dim.checked.Statement.{statement}
 use Rattle.dimension.proofs.Dim.checked.Tie as tie
 
-returns : tie.Need-returns
-returns c = search needs
-
-returns-2 : tie.Need-returns-2
-returns-2 c = search needs
-
 returns-3 : tie.Need-returns-3
 returns-3 c = let g = c .match .rest in sym (four (dimension (c .before .args .byte) (c .before .pre)) (g .0 .1) (g .1))
 
 pub checked-spec : {M : Type 1} → statement M
-checked-spec = tie.close (tie.spec returns returns-2 returns-3)
+checked-spec = tie.close
+    (tie.spec
+    (λ c. search needs)
+    (λ c. search needs)
+    returns-3)

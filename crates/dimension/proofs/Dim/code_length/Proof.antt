@@ -6,14 +6,8 @@ use borrow.Author.Needs.{needs}
 use Rattle.dimension.proofs.Dim.code_length.Statement.{statement}
 use Rattle.dimension.proofs.Dim.code_length.Tie as tie
 
-axes-requires : tie.Need-axes-requires
-axes-requires c κs = search needs
-
 add-result : tie.Need-add-result
 add-result c = omega (arith, axes-range (c .before .args .self) .few)
-
-box-depth-requires : tie.Need-box-depth-requires
-box-depth-requires c κs = search needs
 
 add-result-2 : tie.Need-add-result-2
 add-result-2 c =
@@ -26,4 +20,10 @@ returns c = simp (c .before .axes .ensures, c .box-depth .ensures)
 
 pub code-length-spec : {M : Type 1} → statement M
 code-length-spec =
-    tie.close (tie.spec axes-requires add-result box-depth-requires add-result-2 returns)
+    tie.close
+    (tie.spec
+    (λ c κs. search needs)
+    add-result
+    (λ c κs. search needs)
+    add-result-2
+    returns)

@@ -6,9 +6,6 @@ use borrow.Author.Needs.{needs}
 use Rattle.dimension.proofs.Dim.greatest_depth.Statement.{statement}
 use Rattle.dimension.proofs.Dim.greatest_depth.Tie as tie
 
-axes-requires : tie.Need-axes-requires
-axes-requires c κs = search needs
-
 mul-result : tie.Need-mul-result
 mul-result c = omega (arith, axes-range (c .before .args .self) .few)
 
@@ -17,4 +14,8 @@ unfolding greatestDepth halvings
 returns c = simp (c .axes .ensures)
 
 pub greatest-depth-spec : {M : Type 1} → statement M
-greatest-depth-spec = tie.close (tie.spec axes-requires mul-result returns)
+greatest-depth-spec = tie.close
+    (tie.spec
+    (λ c κs. search needs)
+    mul-result
+    returns)

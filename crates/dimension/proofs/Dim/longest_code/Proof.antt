@@ -5,15 +5,13 @@ use borrow.Author.Needs.{needs}
 use Rattle.dimension.proofs.Dim.longest_code.Statement.{statement}
 use Rattle.dimension.proofs.Dim.longest_code.Tie as tie
 
-greatest-depth-requires : tie.Need-greatest-depth-requires
-greatest-depth-requires c κs = search needs
-
-code-length-requires : tie.Need-code-length-requires
-code-length-requires c κs = search needs
-
 returns : tie.Need-returns
 unfolding longestCode
 returns c = c .code-length .ensures ∙ ap (codeLength (axesOf (c .before .before .args .self))) (c .before .greatest-depth .ensures)
 
 pub longest-code-spec : {M : Type 1} → statement M
-longest-code-spec = tie.close (tie.spec greatest-depth-requires code-length-requires returns)
+longest-code-spec = tie.close
+    (tie.spec
+    (λ c κs. search needs)
+    (λ c κs. search needs)
+    returns)

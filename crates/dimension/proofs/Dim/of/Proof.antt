@@ -4,17 +4,13 @@ use borrow.Author.Needs.{needs}
 use Rattle.dimension.proofs.Dim.of.Statement.{statement}
 use Rattle.dimension.proofs.Dim.of.Tie as tie
 
-returns : tie.Need-returns
-returns c = search needs
-
-returns-2 : tie.Need-returns-2
-returns-2 c = search needs
-
-returns-3 : tie.Need-returns-3
-returns-3 c = search needs
-
 returns-4 : tie.Need-returns-4
 returns-4 c = let g = c .match .rest in no-dimension (c .before .args .axes) (g .0 .0 .1) (g .0 .1) (g .1)
 
 pub of-spec : {M : Type 1} → statement M
-of-spec = tie.close (tie.spec returns returns-2 returns-3 returns-4)
+of-spec = tie.close
+    (tie.spec
+    (λ c. search needs)
+    (λ c. search needs)
+    (λ c. search needs)
+    returns-4)

@@ -7,9 +7,6 @@ use borrow.Author.Needs.{needs}
 use Rattle.dimension.proofs.Dim.points_length.Statement.{statement}
 use Rattle.dimension.proofs.Dim.points_length.Tie as tie
 
-axes-requires : tie.Need-axes-requires
-axes-requires c κs = search needs
-
 mul-result : tie.Need-mul-result
 mul-result c = omega (arith, axes-range (c .before .args .self) .few)
 
@@ -23,4 +20,10 @@ returns : tie.Need-returns
 returns c = points-is (c .axes .result) ∙ ap pointsLength (c .axes .ensures)
 
 pub points-length-spec : {M : Type 1} → statement M
-points-length-spec = tie.close (tie.spec axes-requires mul-result add-result mul-result-2 returns)
+points-length-spec = tie.close
+    (tie.spec
+    (λ c κs. search needs)
+    mul-result
+    add-result
+    mul-result-2
+    returns)

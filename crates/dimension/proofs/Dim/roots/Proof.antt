@@ -4,15 +4,6 @@ use borrow.Author.Needs.{needs}
 use Rattle.dimension.proofs.Dim.roots.Statement.{statement}
 use Rattle.dimension.proofs.Dim.roots.Tie as tie
 
-enum-told : tie.Need-enum-told
-enum-told c = search needs
-
-enum-told-2 : tie.Need-enum-told-2
-enum-told-2 c = search needs
-
-enum-told-3 : tie.Need-enum-told-3
-enum-told-3 c = search needs
-
 returns : tie.Need-returns
 returns c = root-count (c .before .before .args .self) _ (search needs)
 
@@ -23,4 +14,11 @@ returns-3 : tie.Need-returns-3
 returns-3 c = root-count (c .before .before .args .self) _ (search needs)
 
 pub roots-spec : {M : Type 1} → statement M
-roots-spec = tie.close (tie.spec enum-told enum-told-2 enum-told-3 returns returns-2 returns-3)
+roots-spec = tie.close
+    (tie.spec
+    (λ c. search needs)
+    (λ c. search needs)
+    (λ c. search needs)
+    returns
+    returns-2
+    returns-3)

@@ -7,12 +7,6 @@ use borrow.Author.Needs.{needs}
 use Rattle.dimension.proofs.Dim.split_place.Statement.{statement}
 use Rattle.dimension.proofs.Dim.split_place.Tie as tie
 
-axes-requires : tie.Need-axes-requires
-axes-requires c κs = search needs
-
-box-depth-requires : tie.Need-box-depth-requires
-box-depth-requires c κs = search needs
-
 mul-result : tie.Need-mul-result
 mul-result c = record { fits = split-fits _ _ _ _ (c .before .axes .ensures) (c .box-depth .ensures) (omega arith) }
 
@@ -28,4 +22,10 @@ returns c = split-is _ _ _ _ (c .before .axes .ensures) (c .box-depth .ensures)
 pub split-place-spec : {M : Type 1} → statement M
 split-place-spec =
     tie.close
-    (tie.spec axes-requires box-depth-requires mul-result sub-result sub-result-2 returns)
+    (tie.spec
+    (λ c κs. search needs)
+    (λ c κs. search needs)
+    mul-result
+    sub-result
+    sub-result-2
+    returns)

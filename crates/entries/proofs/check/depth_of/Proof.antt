@@ -9,12 +9,13 @@ use Rattle.entries.proofs.check.depth_of.Tie as tie
 shared-slice-read-size : tie.Need-shared-slice-read-size
 shared-slice-read-size c = omega (arith, checked-two (c .before .before .args .code .now) (c .before .before .pre))
 
-size-requires : tie.Need-size-requires
-size-requires c κs = search needs
-
 returns : tie.Need-returns
 unfolding depthOf
 returns c = c .size .ensures
 
 pub depth-of-spec : {M : Type 1} → statement M
-depth-of-spec = tie.close (tie.spec shared-slice-read-size size-requires returns)
+depth-of-spec = tie.close
+    (tie.spec
+    shared-slice-read-size
+    (λ c κs. search needs)
+    returns)

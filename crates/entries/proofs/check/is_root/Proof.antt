@@ -25,20 +25,8 @@ returns c = root-permutes _ (sym (c .before .permuted .ensures) ∙ not-true _ (
 loop-holds : tie.Need-loop-holds Inv-loop μ-loop
 loop-holds c = (omega arith, plain-none _)
 
-shared-slice-read-is-minus : tie.Need-shared-slice-read-is-minus Inv-loop μ-loop
-shared-slice-read-is-minus c = search needs
-
-is-minus-requires : tie.Need-is-minus-requires Inv-loop μ-loop
-is-minus-requires c κs = search needs
-
 returns-2 : tie.Need-returns-2 Inv-loop μ-loop
 returns-2 c = plain-fail (c .before .before .before .before .loop .inv .1) (c .before .before .before .loop-test .taken) (sym (c .before .is-minus .ensures) ∙ c .if2 .taken)
-
-add-i : tie.Need-add-i Inv-loop μ-loop
-add-i c = search needs
-
-loop-less : tie.Need-loop-less Inv-loop μ-loop
-loop-less c = search needs
 
 loop-again : tie.Need-loop-again Inv-loop μ-loop
 loop-again c = (omega arith, plain-next (c .before .before .before .before .loop .inv .1) (sym (c .before .is-minus .ensures) ∙ c .if2 .left))
@@ -55,10 +43,10 @@ is-root-spec =
     permuted-requires
     returns
     loop-holds
-    shared-slice-read-is-minus
-    is-minus-requires
+    (λ c. search needs)
+    (λ c κs. search needs)
     returns-2
-    add-i
-    loop-less
+    (λ c. search needs)
+    (λ c. search needs)
     loop-again
     returns-3)

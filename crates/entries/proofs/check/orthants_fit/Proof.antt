@@ -29,9 +29,6 @@ returns c =
 loop-holds : tie.Need-loop-holds Inv-loop μ-loop
 loop-holds c = fitting-none _ _ _
 
-place-in-requires : tie.Need-place-in-requires Inv-loop μ-loop
-place-in-requires c κs = search needs
-
 add-any : tie.Need-add-any Inv-loop μ-loop
 add-any c =
     let args = c .before .before .before .before .before .args in
@@ -46,9 +43,6 @@ shared-slice-read-any c =
     let if1 = c .before .before .before .before .if1 in
     let loop = c .before .before .before .loop in
     let n : ℕ = length (args .code .now) - (2 + args .d) in omega (arith, c .before .place-in .ensures, place-within (loop .i) n (omega (arith, if1 .left)))
-
-add-i : tie.Need-add-i Inv-loop μ-loop
-add-i c = search needs
 
 loop-less : tie.Need-loop-less Inv-loop μ-loop
 unfolding halvings
@@ -84,10 +78,10 @@ orthants-fit-spec =
     sub-boxes
     returns
     loop-holds
-    place-in-requires
+    (λ c κs. search needs)
     add-any
     shared-slice-read-any
-    add-i
+    (λ c. search needs)
     loop-less
     loop-again
     cast-result

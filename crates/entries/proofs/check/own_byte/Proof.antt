@@ -4,20 +4,17 @@ use borrow.Author.Needs.{needs}
 use Rattle.entries.proofs.check.own_byte.Statement.{statement}
 use Rattle.entries.proofs.check.own_byte.Tie as tie
 
-add-if1 : tie.Need-add-if1
-add-if1 c = search needs
-
 returns : tie.Need-returns
 returns c = own-none _ _ (c .if1 .taken)
-
-sub-result : tie.Need-sub-result
-sub-result c = search needs
-
-shared-slice-read-result : tie.Need-shared-slice-read-result
-shared-slice-read-result c = search needs
 
 returns-2 : tie.Need-returns-2
 returns-2 c = own-last _ _ (c .before .before .pre .1) (c .before .if1 .left)
 
 pub own-byte-spec : {M : Type 1} → statement M
-own-byte-spec = tie.close (tie.spec add-if1 returns sub-result shared-slice-read-result returns-2)
+own-byte-spec = tie.close
+    (tie.spec
+    (λ c. search needs)
+    returns
+    (λ c. search needs)
+    (λ c. search needs)
+    returns-2)

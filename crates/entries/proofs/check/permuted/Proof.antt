@@ -21,9 +21,6 @@ abbrev μ-loop : tie.MeasureT-loop
 loop-holds : tie.Need-loop-holds Inv-loop μ-loop
 loop-holds c = marked-none _ _
 
-place-in-requires : tie.Need-place-in-requires Inv-loop μ-loop
-place-in-requires c κs = search needs
-
 add-mark-of : tie.Need-add-mark-of Inv-loop μ-loop
 add-mark-of c =
     let args = c .before .before .before .before .args in
@@ -36,12 +33,6 @@ shared-slice-read-mark-of c =
     let pre = c .before .before .before .before .before .pre in
     let loop = c .before .before .before .loop in
     omega (arith, c .before .place-in .ensures, place-within (loop .i) (args .d) (pre .0), pre .2)
-
-mark-of-requires : tie.Need-mark-of-requires Inv-loop μ-loop
-mark-of-requires c κs = search needs
-
-add-i : tie.Need-add-i Inv-loop μ-loop
-add-i c = search needs
 
 loop-less : tie.Need-loop-less Inv-loop μ-loop
 loop-less c = omega (arith, c .before .before .before .loop-test .taken)
@@ -79,11 +70,11 @@ permuted-spec =
     Inv-loop
     μ-loop
     loop-holds
-    place-in-requires
+    (λ c κs. search needs)
     add-mark-of
     shared-slice-read-mark-of
-    mark-of-requires
-    add-i
+    (λ c κs. search needs)
+    (λ c. search needs)
     loop-less
     loop-again
     cast-result

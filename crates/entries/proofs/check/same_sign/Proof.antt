@@ -7,14 +7,8 @@ use borrow.Author.Needs.{needs}
 use Rattle.entries.proofs.check.same_sign.Statement.{statement}
 use Rattle.entries.proofs.check.same_sign.Tie as tie
 
-axis-of-requires : tie.Need-axis-of-requires
-axis-of-requires c κs = search needs
-
 is-high-requires : tie.Need-is-high-requires
 is-high-requires c κs = (rw (c .axis-of .ensures) (c .before .pre .0), rw (c .axis-of .ensures) (c .before .pre .1))
-
-is-minus-requires : tie.Need-is-minus-requires
-is-minus-requires c κs = search needs
 
 returns : tie.Need-returns
 returns c =
@@ -30,4 +24,10 @@ returns-2 c =
 
 pub same-sign-spec : {M : Type 1} → statement M
 same-sign-spec =
-    tie.close (tie.spec axis-of-requires is-high-requires is-minus-requires returns returns-2)
+    tie.close
+    (tie.spec
+    (λ c κs. search needs)
+    is-high-requires
+    (λ c κs. search needs)
+    returns
+    returns-2)

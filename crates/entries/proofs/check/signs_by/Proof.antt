@@ -18,9 +18,6 @@ abbrev μ-loop : tie.MeasureT-loop
 loop-holds : tie.Need-loop-holds Inv-loop μ-loop
 loop-holds c = up-to-none _ _ _
 
-place-in-requires : tie.Need-place-in-requires Inv-loop μ-loop
-place-in-requires c κs = search needs
-
 add-same-sign : tie.Need-add-same-sign Inv-loop μ-loop
 add-same-sign c =
     let args = c .before .before .before .before .args in
@@ -53,9 +50,6 @@ returns c =
     (ap (signTest (drop 2 code) (args .own)) (sym (place-in .ensures)) ∙ rw (← at-place code 2 (place-in .result))
     (sym (c .before .same-sign .ensures) ∙ not-true _ (c .if1 .taken)))
 
-add-i : tie.Need-add-i Inv-loop μ-loop
-add-i c = search needs
-
 loop-less : tie.Need-loop-less Inv-loop μ-loop
 loop-less c = omega (arith, c .before .before .before .before .loop-test .taken)
 
@@ -79,12 +73,12 @@ signs-by-spec =
     Inv-loop
     μ-loop
     loop-holds
-    place-in-requires
+    (λ c κs. search needs)
     add-same-sign
     shared-slice-read-same-sign
     same-sign-requires
     returns
-    add-i
+    (λ c. search needs)
     loop-less
     loop-again
     returns-2)

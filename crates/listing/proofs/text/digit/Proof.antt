@@ -9,19 +9,18 @@ use borrow.Author.Needs.{needs}
 use Rattle.listing.proofs.text.digit.Statement.{statement}
 use Rattle.listing.proofs.text.digit.Tie as tie
 
-add-result : tie.Need-add-result
-add-result c = search needs
-
 returns : tie.Need-returns
 unfolding digit
 returns c = rw (lt-ltb (c .before .args .n) 10 (c .if1 .taken)) refl
-
-add-result-2 : tie.Need-add-result-2
-add-result-2 c = search needs
 
 returns-2 : tie.Need-returns-2
 unfolding digit
 returns-2 c = rw (le-ltb (c .before .args .n) 10 (omega (arith, c .if1 .left))) refl
 
 pub digit-spec : {M : Type 1} → statement M
-digit-spec = tie.close (tie.spec add-result returns add-result-2 returns-2)
+digit-spec = tie.close
+    (tie.spec
+    (λ c. search needs)
+    returns
+    (λ c. search needs)
+    returns-2)

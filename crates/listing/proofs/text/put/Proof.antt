@@ -8,15 +8,6 @@ use borrow.Author.Needs.{needs}
 use Rattle.listing.proofs.text.put.Statement.{statement}
 use Rattle.listing.proofs.text.put.Tie as tie
 
-copy-requires : tie.Need-copy-requires
-copy-requires c κs = search needs
-
-add-result : tie.Need-add-result
-add-result c = search needs
-
-same-length : tie.Need-same-length
-same-length c = search needs
-
 returns : tie.Need-returns
 returns c =
     let copy = c .before .before .copy in
@@ -24,4 +15,9 @@ returns c =
     record { next = refl; is = copy .ensures ∙ put-copy (args .at) _ (args .bytes .now) (args .out .now) refl }
 
 pub put-spec : {M : Type 1} → statement M
-put-spec = tie.close (tie.spec copy-requires add-result same-length returns)
+put-spec = tie.close
+    (tie.spec
+    (λ c κs. search needs)
+    (λ c. search needs)
+    (λ c. search needs)
+    returns)

@@ -38,9 +38,6 @@ slice-write-out-2 c = simp length-set (omega (arith, hexing-room (c .before .bef
 add-to : tie.Need-add-to Inv-loop μ-loop
 add-to c = omega (arith, hexing-room (c .before .before .before .before .loop .inv) (c .before .before .before .loop-test .taken), c .before .before .before .before .loop .inv .putting .size)
 
-add-i : tie.Need-add-i Inv-loop μ-loop
-add-i c = search needs
-
 loop-less : tie.Need-loop-less Inv-loop μ-loop
 loop-less c = omega (arith, c .before .before .before .loop-test .taken)
 
@@ -67,7 +64,7 @@ put-hex-spec =
     add-out
     slice-write-out-2
     add-to
-    add-i
+    (λ c. search needs)
     loop-less
     loop-again
     same-length

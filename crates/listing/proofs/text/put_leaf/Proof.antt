@@ -10,9 +10,6 @@ put-decimal-requires c κs =
     let pre = c .before .before .before .pre in
     leaf-fits (args .at) (args .number) (args .code .now) (args .out .now) (pre) .first
 
-slice-aggregate-put : tie.Need-slice-aggregate-put
-slice-aggregate-put c = search needs
-
 put-requires : tie.Need-put-requires
 put-requires c κs =
     let args = c .before .before .before .before .before .before .before .before .args in
@@ -28,9 +25,6 @@ put-hex-requires c κs =
     let put = c .before .before .before .put in
     leaf-fits (args .at) (args .number) (args .code .now) (args .out .now) (pre) .third (put-decimal .ensures) (put .ensures)
 
-slice-aggregate-put-2 : tie.Need-slice-aggregate-put-2
-slice-aggregate-put-2 c = search needs
-
 put-requires-2 : tie.Need-put-requires-2
 put-requires-2 c κs =
     let args = c .before .before .before .before .before .before .before .before .before .before .before .before .before .before .before .before .before .args in
@@ -39,9 +33,6 @@ put-requires-2 c κs =
     let put = c .before .before .before .before .before .before .before .before .put in
     let put-hex = c .before .before .before .before .put-hex in
     leaf-fits (args .at) (args .number) (args .code .now) (args .out .now) (pre) .fourth (put-decimal .ensures) (put .ensures) (put-hex .ensures)
-
-same-length : tie.Need-same-length
-same-length c = search needs
 
 returns : tie.Need-returns
 returns c =
@@ -58,10 +49,10 @@ put-leaf-spec =
     tie.close
     (tie.spec
     put-decimal-requires
-    slice-aggregate-put
+    (λ c. search needs)
     put-requires
     put-hex-requires
-    slice-aggregate-put-2
+    (λ c. search needs)
     put-requires-2
-    same-length
+    (λ c. search needs)
     returns)

@@ -22,9 +22,6 @@ put-decimal-requires c κs =
     let put = c .before .before .before .put in
     number-fits (args .at) (args .word .now) (args .n) (args .out .now) (pre) .second (put .ensures)
 
-slice-aggregate-put : tie.Need-slice-aggregate-put
-slice-aggregate-put c = search needs
-
 put-requires-2 : tie.Need-put-requires-2
 put-requires-2 c κs =
     let args = c .before .before .before .before .before .before .before .before .before .before .before .before .args in
@@ -32,9 +29,6 @@ put-requires-2 c κs =
     let put = c .before .before .before .before .before .before .before .before .put in
     let put-decimal = c .before .before .before .before .put-decimal in
     number-fits (args .at) (args .word .now) (args .n) (args .out .now) (pre) .third (put .ensures) (put-decimal .ensures)
-
-same-length : tie.Need-same-length
-same-length c = search needs
 
 returns : tie.Need-returns
 returns c =
@@ -51,7 +45,7 @@ put-line-spec =
     (tie.spec
     put-requires
     put-decimal-requires
-    slice-aggregate-put
+    (λ c. search needs)
     put-requires-2
-    same-length
+    (λ c. search needs)
     returns)

@@ -23,9 +23,6 @@ sub-last c = c .before .before .pre .0
 loop-holds : tie.Need-loop-holds Inv-loop μ-loop
 loop-holds c = fronted-none _ _ _
 
-place-in-requires : tie.Need-place-in-requires Inv-loop μ-loop
-place-in-requires c κs = search needs
-
 copy-four-requires : tie.Need-copy-four-requires Inv-loop μ-loop
 copy-four-requires c κs =
     let args = c .before .before .before .before .before .before .args in
@@ -73,7 +70,7 @@ copy-front-spec =
     μ-loop
     sub-last
     loop-holds
-    place-in-requires
+    (λ c κs. search needs)
     copy-four-requires
     add-i
     loop-less

@@ -21,9 +21,6 @@ abbrev μ-loop : tie.MeasureT-loop
 loop-holds : tie.Need-loop-holds Inv-loop μ-loop
 loop-holds c = marking-none _ _
 
-place-in-requires : tie.Need-place-in-requires Inv-loop μ-loop
-place-in-requires c κs = search needs
-
 add-e : tie.Need-add-e Inv-loop μ-loop
 add-e c =
     let args = c .before .before .before .before .args in
@@ -37,12 +34,6 @@ shared-slice-read-e c =
     let loop = c .before .before .before .loop in
     omega (arith, c .before .place-in .ensures, place-within (loop .i) (args .d) (pre .0), pre .2)
 
-is-minus-requires : tie.Need-is-minus-requires Inv-loop μ-loop
-is-minus-requires c κs = search needs
-
-axis-of-requires : tie.Need-axis-of-requires Inv-loop μ-loop
-axis-of-requires c κs = search needs
-
 raise-requires : tie.Need-raise-requires Inv-loop μ-loop
 raise-requires c κs =
     let args = c .before .before .before .before .before .before .before .before .args in
@@ -52,9 +43,6 @@ raise-requires c κs =
     let j = place-in .result in
     let l : j < args .d = omega (arith, place-in .ensures, place-within (loop .i) (args .d) (pre .0)) in
     rw (c .axis-of .ensures, entry-at (args .buf .now) (args .at) (args .d) j l) (pre .3 .low j l, omega (arith, pre .3 .high j l, pre .1))
-
-add-i : tie.Need-add-i Inv-loop μ-loop
-add-i c = search needs
 
 loop-less : tie.Need-loop-less Inv-loop μ-loop
 loop-less c = omega (arith, c .before .before .before .before .loop-test .taken)
@@ -85,13 +73,13 @@ orthant-of-spec =
     Inv-loop
     μ-loop
     loop-holds
-    place-in-requires
+    (λ c κs. search needs)
     add-e
     shared-slice-read-e
-    is-minus-requires
-    axis-of-requires
+    (λ c κs. search needs)
+    (λ c κs. search needs)
     raise-requires
-    add-i
+    (λ c. search needs)
     loop-less
     loop-again
     returns)

@@ -29,9 +29,6 @@ loop-holds c =
     let pre = c .before .before .before .pre in
     (omega arith, turning-none (args .buf .now) (args .at) (args .n) (pre .0) _ (c .negate .ensures))
 
-sub-i : tie.Need-sub-i Inv-loop μ-loop
-sub-i c = search needs
-
 add-e : tie.Need-add-e Inv-loop μ-loop
 add-e c = omega (arith, c .before .before .before .before .before .pre .0, c .before .loop .inv .0)
 
@@ -43,9 +40,6 @@ add-buf c = omega (arith, c .before .before .before .before .before .before .pre
 
 slice-write-buf : tie.Need-slice-write-buf Inv-loop μ-loop
 slice-write-buf c = omega (arith, c .before .before .before .before .before .before .pre .0, c .before .before .loop .inv .0, c .before .before .loop .inv .1 .filled .size)
-
-loop-less : tie.Need-loop-less Inv-loop μ-loop
-loop-less c = search needs
 
 loop-again : tie.Need-loop-again Inv-loop μ-loop
 loop-again c =
@@ -77,12 +71,12 @@ turn-spec =
     negate-requires
     add-i
     loop-holds
-    sub-i
+    (λ c. search needs)
     add-e
     slice-read-e
     add-buf
     slice-write-buf
-    loop-less
+    (λ c. search needs)
     loop-again
     same-length
     returns)

@@ -14,12 +14,6 @@ Inv-loop buf₀ at n moved₀ i₀ buf moved i = (i ≤ n + 1) × Unturning buf�
 abbrev μ-loop : tie.MeasureT-loop
 μ-loop buf₀ at n moved₀ i₀ buf moved i = n + 1 - i
 
-add-negate : tie.Need-add-negate Inv-loop μ-loop
-add-negate c = search needs
-
-slice-read-negate : tie.Need-slice-read-negate Inv-loop μ-loop
-slice-read-negate c = search needs
-
 negate-requires : tie.Need-negate-requires Inv-loop μ-loop
 negate-requires c κs = c .before .before .pre .1
 
@@ -43,9 +37,6 @@ slice-write-buf c = omega (arith, c .before .before .before .before .before .bef
 
 add-i : tie.Need-add-i Inv-loop μ-loop
 add-i c = omega (arith, c .before .before .before .before .before .before .pre .0, c .before .loop-test .taken)
-
-loop-less : tie.Need-loop-less Inv-loop μ-loop
-loop-less c = search needs
 
 loop-again : tie.Need-loop-again Inv-loop μ-loop
 loop-again c =
@@ -73,8 +64,8 @@ unturn-spec =
     (tie.spec
     Inv-loop
     μ-loop
-    add-negate
-    slice-read-negate
+    (λ c. search needs)
+    (λ c. search needs)
     negate-requires
     loop-holds
     add-e
@@ -82,7 +73,7 @@ unturn-spec =
     add-buf
     slice-write-buf
     add-i
-    loop-less
+    (λ c. search needs)
     loop-again
     same-length
     returns)

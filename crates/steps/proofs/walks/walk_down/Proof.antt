@@ -18,16 +18,10 @@ Inv-loop dim path code₀ d k₀ t₀ code k t = (t ≤ length path) × (k ≡ s
 abbrev μ-loop : tie.MeasureT-loop
 μ-loop dim path code₀ d k₀ t₀ code k t = length path - t
 
-axes-requires : tie.Need-axes-requires Inv-loop μ-loop
-axes-requires c κs = search needs
-
 loop-holds : tie.Need-loop-holds Inv-loop μ-loop
 loop-holds c =
     let args = c .before .before .before .args in
     (omega arith, c .axes .ensures ∙ sym (at-root (axesOf (args .dim)) (omega (arith, (axes-range (args .dim)) .two)) .1), walk-none _ _ _)
-
-shared-slice-read-step-in : tie.Need-shared-slice-read-step-in Inv-loop μ-loop
-shared-slice-read-step-in c = search needs
 
 step-in-requires : tie.Need-step-in-requires Inv-loop μ-loop
 step-in-requires c κs =
@@ -42,12 +36,6 @@ place-after-requires c κs =
     let args = c .before .before .before .before .before .before .before .before .before .before .args in
     let loop = c .before .before .before .before .before .before .loop in
     omega (arith, loop .inv .1, split-range (axesOf (args .dim)) (loop .t) (omega (arith, (axes-range (args .dim)) .two)) .0)
-
-add-t : tie.Need-add-t Inv-loop μ-loop
-add-t c = search needs
-
-loop-less : tie.Need-loop-less Inv-loop μ-loop
-loop-less c = search needs
 
 loop-again : tie.Need-loop-again Inv-loop μ-loop
 loop-again c =
@@ -77,13 +65,13 @@ walk-down-spec =
     (tie.spec
     Inv-loop
     μ-loop
-    axes-requires
+    (λ c κs. search needs)
     loop-holds
-    shared-slice-read-step-in
+    (λ c. search needs)
     step-in-requires
     place-after-requires
-    add-t
-    loop-less
+    (λ c. search needs)
+    (λ c. search needs)
     loop-again
     same-length
     returns)

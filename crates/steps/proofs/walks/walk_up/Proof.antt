@@ -22,15 +22,6 @@ Inv-loop code depth root₀ path₀ d k₀ boxes₀ t₀ root path k boxes t = (
 abbrev μ-loop : tie.MeasureT-loop
 μ-loop code depth root₀ path₀ d k₀ boxes₀ t₀ root path k boxes t = t
 
-axes-requires : tie.Need-axes-requires Inv-loop μ-loop
-axes-requires c κs = search needs
-
-split-place-requires : tie.Need-split-place-requires Inv-loop μ-loop
-split-place-requires c κs = search needs
-
-box-depth-requires : tie.Need-box-depth-requires Inv-loop μ-loop
-box-depth-requires c κs = search needs
-
 loop-holds : tie.Need-loop-holds Inv-loop μ-loop
 loop-holds c =
     let args = c .before .before .before .before .before .before .args in
@@ -42,9 +33,6 @@ loop-holds c =
           (λ (d : ℕ). boxDepth d (args .depth)) (sym (axes .ensures)),
       climb-none (ready-at (axes .ensures) (pre)),
     )
-
-sub-t : tie.Need-sub-t Inv-loop μ-loop
-sub-t c = search needs
 
 boxes-above-requires : tie.Need-boxes-above-requires Inv-loop μ-loop
 boxes-above-requires c κs =
@@ -109,9 +97,6 @@ slice-write-path c =
     let the-loop-test = c .before .before .before .before .before .before .before .loop-test in
     omega (arith, loop .inv .3 .path-size, pre .depth, (loop .inv .0), (the-loop-test .taken))
 
-loop-less : tie.Need-loop-less Inv-loop μ-loop
-loop-less c = search needs
-
 loop-again : tie.Need-loop-again Inv-loop μ-loop
 loop-again c =
     let args = c .before .before .before .before .before .before .before .before .before .before .before .before .before .before .before .args in
@@ -149,18 +134,18 @@ walk-up-spec =
     (tie.spec
     Inv-loop
     μ-loop
-    axes-requires
-    split-place-requires
-    box-depth-requires
+    (λ c κs. search needs)
+    (λ c κs. search needs)
+    (λ c κs. search needs)
     loop-holds
-    sub-t
+    (λ c. search needs)
     boxes-above-requires
     place-above-requires
     own-of-requires
     sub-unstep
     unstep-requires
     slice-write-path
-    loop-less
+    (λ c. search needs)
     loop-again
     same-length
     same-length-2

@@ -9,17 +9,8 @@ use borrow.Author.Needs.{needs}
 use Rattle.steps.proofs.walks.write_code.Statement.{statement}
 use Rattle.steps.proofs.walks.write_code.Tie as tie
 
-axes-requires : tie.Need-axes-requires
-axes-requires c κs = search needs
-
-cast-code : tie.Need-cast-code
-cast-code c = search needs
-
 slice-write-code : tie.Need-slice-write-code
 slice-write-code c = omega (arith, code-two (c .before .before .before .before .pre))
-
-cast-code-2 : tie.Need-cast-code-2
-cast-code-2 c = search needs
 
 slice-write-code-2 : tie.Need-slice-write-code-2
 slice-write-code-2 c = simp length-set (omega (arith, code-two (c .before .before .before .before .pre)))
@@ -50,10 +41,10 @@ pub write-code-spec : {M : Type 1} → statement M
 write-code-spec =
     tie.close
     (tie.spec
-    axes-requires
-    cast-code
+    (λ c κs. search needs)
+    (λ c. search needs)
     slice-write-code
-    cast-code-2
+    (λ c. search needs)
     slice-write-code-2
     copy-requires
     walk-down-requires

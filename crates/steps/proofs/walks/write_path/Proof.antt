@@ -4,20 +4,11 @@ use borrow.Author.Needs.{needs}
 use Rattle.steps.proofs.walks.write_path.Statement.{statement}
 use Rattle.steps.proofs.walks.write_path.Tie as tie
 
-axes-requires : tie.Need-axes-requires
-axes-requires c κs = search needs
-
 copy-requires : tie.Need-copy-requires
 copy-requires c κs = path-copied (c .before .before .before .before .before .pre) (c .before .axes .ensures)
 
 walk-up-requires : tie.Need-walk-up-requires
 walk-up-requires c κs = search (needs, path-ready)
-
-same-length : tie.Need-same-length
-same-length c = search needs
-
-same-length-2 : tie.Need-same-length-2
-same-length-2 c = search needs
 
 returns : tie.Need-returns
 returns c = search (needs, path-stands)
@@ -25,4 +16,10 @@ returns c = search (needs, path-stands)
 pub write-path-spec : {M : Type 1} → statement M
 write-path-spec =
     tie.close
-    (tie.spec axes-requires copy-requires walk-up-requires same-length same-length-2 returns)
+    (tie.spec
+    (λ c κs. search needs)
+    copy-requires
+    walk-up-requires
+    (λ c. search needs)
+    (λ c. search needs)
+    returns)
