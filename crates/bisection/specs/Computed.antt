@@ -1,13 +1,13 @@
 -- The definitions computed. The worked cells P1 to P10 are rows of the table in the crate `demands`; here stand
 -- the orthants that document 01 quotes for path 0101, and counts of all byte strings that pass: d! 2^D of them.
 use mathlib.Core.Path.{_≡_, refl}
-use mathlib.Core.Bool.{Bool, true, false, cond}
+use mathlib.Core.Bool.{cond}
 use mathlib.Core.List.{List, [], _∷_, _++_, map}
 use Prim.Native.Nat.{ℕ, zero, suc, _+_, _*_, _^_}
 use lib.Dec.{eqb}
 use Rattle.dimension.specs.Sizes.{isDimension, halvings, greatestDepth, level, splitPlace, boxDepth, codeLength}
 use Rattle.bisection.specs.Roots.{axesFrom, picks, joined, arrangements, roots}
-use Rattle.bisection.specs.Codes.{minus, axis, negated, turned, stepped, high, minusOn, orthantTo, orthant, step, nameBelow, nameOf, bytes, dimensionOf, depthOf, entriesOf, orthantsOf}
+use Rattle.bisection.specs.Codes.{minus, axis, negated, turned, stepped, high, minusOn, orthantTo, orthant, step, nameBelow, nameOf, dimensionOf, depthOf, entriesOf, orthantsOf}
 use Rattle.bisection.specs.Refusals.{firstRefusal, each, fresh, permutes, orthantsFit, ownMinus, signsOwn, headRefusal, lengthOf, bodyRefusal, codeRefusal}
 
 -- "under the rule here they are (+1,-1), (-1,-1)"

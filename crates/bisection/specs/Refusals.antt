@@ -1,9 +1,9 @@
 -- Document 01, "Refusal numbers": the numbers by name, and the order of refusals for a code.
-use mathlib.Core.Bool.{Bool, true, false, cond, not, _&&_}
+use mathlib.Core.Bool.{Bool, true, false, not, _&&_}
 use mathlib.Core.List.{List, [], _∷_}
-use Prim.Native.Nat.{ℕ, zero, suc, _+_, _-_, _^_}
+use Prim.Native.Nat.{ℕ, zero, suc, _-_, _^_}
 use lib.Dec.{eqb, leb, ltb}
-use lib.ListN.{length, getD, take, drop}
+use lib.ListN.{length, getD}
 use Rattle.dimension.specs.Sizes.{isDimension, greatestDepth, codeLength, splitPlace}
 use Rattle.bisection.specs.Codes.{axis, minus, high, dimensionOf, depthOf, entriesOf, orthantsOf}
 

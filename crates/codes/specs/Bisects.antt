@@ -4,7 +4,7 @@ use mathlib.Core.Path.{_≡_, refl, _∙_}
 use mathlib.Core.List.{List, [], _∷_, _++_}
 use Prim.Native.Nat.{ℕ, _≤_, _<_}
 use Rattle.dimension.specs.Sizes.{greatestDepth, splitPlace}
-use Rattle.bisection.specs.Cells.{Cell, child, cellOf}
+use Rattle.bisection.specs.Cells.{Cell, child}
 use Rattle.bisection.specs.Codes.{dimensionOf, depthOf}
 use Rattle.bisection.specs.Facets.{IsCell}
 use Rattle.bisection.specs.Theorems.CodePaths.{one-path, dimension-of-code, depth-of-code}

@@ -10,7 +10,7 @@ use borrow.Author.Tests.{le-leb, lt-leb, lt-ltb, le-ltb}
 use Rattle.dimension.specs.Sizes.{greatestDepth, codeLength}
 use Rattle.bisection.specs.Codes.{step, bytes, dimensionOf, depthOf, partsOf}
 use Rattle.bisection.specs.Refusals.{done, refusedStep, refusedDeepest, refusedShort, codeRefusal}
-use Rattle.bisection.specs.Theorems.Ladders.{First, first-is, all-hold, holds, fails, past, stops}
+use Rattle.bisection.specs.Theorems.Ladders.{first-is, all-hold, holds, fails, past, stops}
 use Rattle.bisection.specs.Theorems.Passing.{Passes, step-passes}
 use Rattle.bisection.specs.Theorems.CodePaths.{childCode, rootOf, pathOf, code-path, child-code}
 use Rattle.entries.specs.Passed.{Checked, checked}

@@ -1,15 +1,12 @@
 -- What the promises of the code layer leave open: nothing. Two outcomes that an entry's contract allows for one
 -- input are equal, the answer and every lent cell.
-use mathlib.Core.Path.{_≡_, refl, sym, ap, _∙_, subst}
+use mathlib.Core.Path.{_≡_, refl, sym, ap, _∙_}
 use mathlib.Core.List.{List, [], _∷_, _++_}
-use mathlib.Core.Logic.{_≢_}
-use Prim.Native.Nat.{ℕ, suc, _+_, _-_}
+use Prim.Native.Nat.{ℕ, _+_, _-_}
 use native.Mathlib.Omega.{arith}
 use native.Mathlib.Decide.{ℕ-discrete}
 use lib.ListN.{length, drop, length-append}
 use lib.Seq.{take-at}
-use Rattle.bisection.specs.Cells.{cellOf, cellBytes}
-use Rattle.bisection.specs.Codes.{codeOf, IsCodeOf}
 use Rattle.bisection.specs.Refusals.{codeRefusal}
 use Rattle.bisection.specs.Theorems.CodePaths.{one-path}
 use Rattle.codes.specs.declared.Written.{Written}

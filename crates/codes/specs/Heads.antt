@@ -1,11 +1,11 @@
 -- The head of a code and the order of refusals, one law for each way out of the code that decides them.
 use mathlib.Core.Path.{_≡_, refl, sym, _∙_}
-use mathlib.Core.Bool.{Bool, true, false, _&&_}
+use mathlib.Core.Bool.{true, false, _&&_}
 use mathlib.Core.List.{List}
 use mathlib.Core.Logic.{_≢_}
 use Prim.Native.Nat.{ℕ, _+_, _≤_, _<_}
 use native.Mathlib.Omega.{arith}
-use lib.Dec.{leb, eqb}
+use lib.Dec.{leb}
 use lib.ListN.{length, getD, drop}
 use borrow.Author.Tests.{lt-leb, le-leb, ne-eqb, leb-true}
 use Rattle.dimension.specs.Sizes.{isDimension, halvings, greatestDepth, codeLength, boxDepth, splitPlace}

@@ -8,7 +8,7 @@ use lib.ListN.{length, drop, length-append}
 use lib.Seq.{getD-at}
 use borrow.Author.Tests.{le-leb, lt-leb, lt-ltb, le-ltb}
 use Rattle.dimension.specs.Sizes.{codeLength}
-use Rattle.bisection.specs.Codes.{step, bytes, dimensionOf, depthOf, partsOf, IsCodeOf}
+use Rattle.bisection.specs.Codes.{bytes, dimensionOf, depthOf, partsOf, IsCodeOf}
 use Rattle.bisection.specs.Refusals.{done, refusedRoot, refusedShort, codeRefusal}
 use Rattle.bisection.specs.Theorems.Ladders.{first-is, all-hold, holds, fails, past, stops}
 use Rattle.bisection.specs.Theorems.Passing.{Passes, lastStep, parentName, parent-passes}

@@ -1,6 +1,6 @@
 -- Path to code and code to path: one law for each way out of the code.
 use mathlib.Core.Path.{_≡_, refl, sym, ap, _∙_, subst}
-use mathlib.Core.Bool.{Bool, true, false, not, _&&_}
+use mathlib.Core.Bool.{Bool, true, false, not}
 use mathlib.Core.List.{List, _++_}
 use mathlib.Core.Logic.{_≢_}
 use Prim.Native.Nat.{ℕ, _+_, _-_, _≤_, _<_}
@@ -21,7 +21,7 @@ use Rattle.bisection.specs.Theorems.Checked.{both, each-at, permutes-signed}
 use Rattle.bisection.specs.Theorems.CodePaths.{name-passes, code-path, rootOf, pathOf, length-root, length-path-of}
 use Rattle.codes.specs.declared.Written.{Written}
 use Rattle.codes.specs.declared.PathWritten.{PathWritten}
-use Rattle.codes.specs.Outcomes.{pathRefusal, PathToCode, toPathRefusal, PathOf, CodeToPath}
+use Rattle.codes.specs.Outcomes.{pathRefusal, PathToCode, toPathRefusal, CodeToPath}
 use Rattle.codes.specs.Writing.{refused-writes, done-writes}
 use Rattle.steps.specs.Descents.{CodeReady}
 use Rattle.steps.specs.Ascents.{PathStands}

@@ -4,14 +4,12 @@ use mathlib.Core.Path.{_≡_}
 use mathlib.Core.List.{List}
 use Prim.Native.Nat.{ℕ}
 use Rattle.bisection.specs.Refusals.{codeRefusal}
-use Rattle.codes.specs.declared.Written.{Written}
 use Rattle.codes.specs.declared.PathWritten.{PathWritten}
 use Rattle.codes.specs.Outcomes.{PathToCode, CodeToPath, Vertices, Child, Parent}
 use Rattle.codes.specs.Determined.{code-check-determined, path-to-code-determined, code-to-path-determined, vertices-determined, child-determined, parent-determined}
 use Rattle.crossing.specs.declared.Crossed.{Crossed}
 use Rattle.crossing.specs.Outcome.{Crosses}
 use Rattle.crossing.specs.Determined.{Same, determined}
-use Rattle.sheets.specs.declared.SheetAnswer.{SheetAnswer}
 use Rattle.sheets.specs.Sheets.{SheetIs}
 use Rattle.sheets.specs.Theorems.Determined.{sheet-determined}
 use Rattle.listing.specs.Texts.{Lists}

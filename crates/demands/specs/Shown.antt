@@ -2,7 +2,7 @@
 use mathlib.Core.Path.{_≡_, refl, sym, ap, _∙_, subst}
 use mathlib.Core.Bool.{true, false}
 use mathlib.Core.List.{List, [], _∷_, _++_}
-use Prim.Native.Nat.{ℕ, suc, _≤_, _<_}
+use Prim.Native.Nat.{ℕ, suc, _≤_}
 use native.Mathlib.Omega.{arith}
 use lib.Dec.{T, leb, ltb}
 use lib.ListN.{length, drop}
@@ -20,7 +20,7 @@ use Rattle.codes.specs.Outcomes.{pathRefusal, PathToCode, verticesRefusal, Vert
 use Rattle.codes.specs.PathAnswers.{good-root, code-of-length}
 use Rattle.codes.specs.ChildAnswers.{child-of, child-length}
 use Rattle.codes.specs.Writing.{done-writes, done-answers}
-use Rattle.crossing.specs.Outcome.{Crosses, crossed, wall}
+use Rattle.crossing.specs.Outcome.{crossed, wall}
 use Rattle.sheets.specs.Sheets.{sheetMark, sampleWidth, GoodSheet, good}
 use Rattle.listing.specs.Texts.{Listing}
 use Rattle.demands.specs.Rows.{Row, path-to-code, vertices, code-check, child-at, cross, walled, sheet-check, listing, Answered, Holds, Every}

@@ -1,7 +1,7 @@
 -- The sheet of document 01, "The listing program": its 24 bytes, that they are good, and that its first 12 end early.
 use mathlib.Core.Path.{_≡_, refl, ap}
 use mathlib.Core.List.{List, [], _∷_}
-use Prim.Native.Nat.{ℕ, _+_, _≤_, _<_}
+use Prim.Native.Nat.{ℕ, _+_}
 use native.Mathlib.Omega.{arith}
 use lib.ListN.{length, drop, replicate, length-drop, length-replicate}
 use Rattle.dimension.specs.Sizes.{isDimension}
@@ -13,7 +13,7 @@ use Rattle.sheets.specs.Forests.{none as forest-none, more as forest-more}
 use Rattle.sheets.specs.Sheets.{sheetMark, sampleWidth, refusedLeaf, none, more, GoodSheet, recordLength, recordRefusal, Read, start, next, told, ended-early, SheetIs}
 use Rattle.sheets.specs.Theorems.Listing.{GoodCell, CellsIn, cells-more, leaves-cells, record-passes, record-rest, record-read}
 use Rattle.sheets.specs.Theorems.Good.{good-alone}
-use Rattle.listing.specs.Texts.{sheetLimit, refusedLarge, refusedText, Listing, large, refused}
+use Rattle.listing.specs.Texts.{refusedLarge, refusedText, Listing, large, refused}
 
 -- the 24 bytes of "The listing program", which P10 looks into: the leaves are the two roots
 abbrev pub twoLeaves : List ℕ

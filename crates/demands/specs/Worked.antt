@@ -1,7 +1,6 @@
 -- Document 01, "Cells worked by hand": the proved set, as rows of one table under one claim.
-use mathlib.Core.Path.{_≡_, refl}
+use mathlib.Core.Path.{refl}
 use mathlib.Core.List.{List, [], _∷_}
-use Prim.Native.Nat.{ℕ}
 use lib.ListN.{replicate}
 use Rattle.dimension.specs.Sizes.{isDimension, halvings, cubeSide, greatestDepth, level, splitPlace, boxDepth, codeLength, pointsLength}
 use native.Mathlib.Omega.{arith}

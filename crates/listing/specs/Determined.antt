@@ -1,13 +1,12 @@
 -- The listing's contract determines the output, its length and every cell of the buffer.
-use mathlib.Core.Path.{_≡_, refl, sym, ap, ap₂, _∙_, subst}
+use mathlib.Core.Path.{_≡_, refl, sym, ap, _∙_}
 use mathlib.Core.List.{List, _++_}
 use mathlib.Core.Logic.{_≢_}
-use Prim.Native.Nat.{ℕ, _≤_, _<_}
+use Prim.Native.Nat.{ℕ}
 use native.Mathlib.Omega.{arith}
 use lib.ListN.{length, drop}
 use Rattle.bisection.specs.Refusals.{done}
 use Rattle.sheets.specs.declared.SheetAnswer.{SheetAnswer}
-use Rattle.sheets.specs.Forests.{TreeCell}
 use Rattle.sheets.specs.Sheets.{sheetMark, sampleWidth, GoodSheet, SheetIs, told}
 use Rattle.sheets.specs.Sheets.{good as good-sheet}
 use Rattle.sheets.specs.Theorems.Determined.{sheet-determined}

@@ -1,12 +1,12 @@
 -- The lines of a good sheet's leaves, put one after the other as the records are read.
 use mathlib.Core.Path.{_≡_, refl, sym, ap, _∙_, subst}
 use mathlib.Core.List.{List, [], _∷_, _++_}
-use Prim.Native.Nat.{ℕ, zero, suc, _+_, _-_, _*_, _^_, _≤_, _<_, min}
+use Prim.Native.Nat.{ℕ, suc, _+_, _-_, _*_, _^_, _≤_, _<_}
 use native.Mathlib.Omega.{arith}
 use native.Mathlib.Nat.{mul-le-mul}
 use lib.ListN.{length, take, drop, length-append, length-drop}
 use lib.Seq.{drop-drop}
-use Rattle.dimension.specs.Laws.{Dimension, dimension}
+use Rattle.dimension.specs.Laws.{dimension}
 use Rattle.bisection.specs.Codes.{codeOf}
 use Rattle.bisection.specs.Refusals.{done}
 use Rattle.codes.specs.Fronts.{frontDimension, frontLength, frontCode}

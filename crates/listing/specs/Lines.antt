@@ -1,11 +1,11 @@
 -- Lines made of texts put one behind the other: each fits, and together they are the line.
-use mathlib.Core.Path.{_≡_, refl, sym, ap, _∙_, subst}
-use mathlib.Core.List.{List, [], _∷_, _++_}
-use Prim.Native.Nat.{ℕ, suc, _+_, _*_, _^_, _≤_, _<_}
+use mathlib.Core.Path.{_≡_, _∙_}
+use mathlib.Core.List.{List, _++_}
+use Prim.Native.Nat.{ℕ, _+_, _*_, _≤_, _<_}
 use native.Mathlib.Omega.{arith}
 use lib.ListN.{length, length-append}
 use Rattle.listing.specs.Texts.{sheetLimit, decimal, hex, space, newline, refusedWord, atWord, numberLine, leafLine, refusedText}
-use Rattle.listing.specs.Putting.{Puts, puts-more, puts-fits, puts-length}
+use Rattle.listing.specs.Putting.{Puts, puts-more, puts-fits}
 use Rattle.listing.specs.Digits.{decimal-short, hex-length}
 
 -- a word, a number and the line's end

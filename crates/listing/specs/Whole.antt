@@ -1,18 +1,17 @@
 -- The whole output: a good sheet's three parts, and the text at the front of the buffer.
-use mathlib.Core.Path.{_≡_, refl, sym, ap, _∙_, subst}
-use mathlib.Core.List.{List, [], _∷_, _++_}
-use mathlib.Core.Logic.{_≢_}
-use Prim.Native.Nat.{ℕ, zero, suc, _+_, _-_, _*_, _^_, _≤_, _<_, min}
+use mathlib.Core.Path.{_≡_, sym, ap, _∙_, subst}
+use mathlib.Core.List.{List, _++_}
+use Prim.Native.Nat.{ℕ, _+_, _-_, _≤_, min}
 use native.Mathlib.Omega.{arith}
 use lib.ListN.{length, take, drop, length-append, length-take}
-use Rattle.dimension.specs.Laws.{Dimension, dimension}
+use Rattle.dimension.specs.Laws.{dimension}
 use Rattle.bisection.specs.Refusals.{done}
 use Rattle.sheets.specs.declared.SheetAnswer.{SheetAnswer}
 use Rattle.sheets.specs.Sheets.{sheetMark, sampleWidth, GoodSheet, SheetIs, good, record-refused, not-next, ended-early}
 use Rattle.sheets.specs.declared.Edition.{Edition}
 use Rattle.sheets.specs.Steps.{markOf, IsFirst}
 use Rattle.sheets.specs.Theorems.Good.{same-axes}
-use Rattle.listing.specs.Texts.{sheetLimit, dimWord, leavesWord, decimal, numberLine, leafLines, goodText, refusedText, Listing, Lists}
+use Rattle.listing.specs.Texts.{dimWord, leavesWord, numberLine, leafLines, goodText, Listing, Lists}
 use Rattle.listing.specs.Putting.{put, Puts, puts-more, puts-length}
 use Rattle.listing.specs.Digits.{decimal-short}
 use Rattle.listing.specs.Lines.{number-length}

@@ -5,7 +5,7 @@ use mathlib.Core.Logic.{⊎-elim}
 use Prim.Native.Nat.{ℕ, suc, _+_, _-_, _≤_, _<_}
 use native.Mathlib.Omega.{arith}
 use lib.ListN.{length, getD, take, drop, set, length-append, length-take, length-drop, length-set, take-append-drop}
-use lib.Seq.{getD-take, getD-drop, drop-append-add, take-at, drop-at, take-all, drop-drop, drop-set-lt}
+use lib.Seq.{drop-append-add, take-at, drop-at, take-all, drop-drop, drop-set-lt}
 use Rattle.dimension.specs.Sizes.{codeLength, longestOfAll, boxDepth}
 use Rattle.dimension.specs.Laws.{depth-small, Within, Turned, deeper}
 use Rattle.bisection.specs.Codes.{Name, step, bytes, dimensionOf, depthOf, partsOf}
@@ -15,7 +15,6 @@ use Rattle.bisection.specs.Theorems.Passing.{Passes}
 use Rattle.bisection.specs.Theorems.Checked.{good}
 use Rattle.steps.specs.Steps.{nameIn, StepsTo}
 use Rattle.entries.specs.Passed.{Checked, checked, code-few}
-use Rattle.entries.specs.Walks.{ownByte}
 
 -- what the child is written from
 pub record ChildReady (code : List ℕ) (d D : ℕ) (out : List ℕ) : Type 0 where

@@ -1,9 +1,9 @@
 -- One axis of a cell at a time. The closed form of the vertices' coordinates on the axis of entry i (i from 0):
 -- the box's near side up to vertex i, then its far side up to vertex k, then its middle. A step of the
 -- bisection keeps that form, with the entry where the step rule puts it.
-use mathlib.Core.Path.{_≡_, refl, sym, ap, _∙_}
+use mathlib.Core.Path.{_≡_, refl}
 use mathlib.Core.Bool.{Bool, true, false, cond, not}
-use Prim.Native.Nat.{ℕ, zero, suc, _+_, _-_, _*_, _/_, _%_, _≤_, _<_}
+use Prim.Native.Nat.{ℕ, suc, _+_, _-_, _/_, _%_, _≤_, _<_}
 use native.Mathlib.Omega.{arith}
 use native.Mathlib.Decide.{decLt, decLe, ℕ-discrete}
 use lib.Dec.{ltb, leb, eqb}

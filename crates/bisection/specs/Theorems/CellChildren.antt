@@ -1,6 +1,6 @@
 -- The step of a path is a step of Maubach's bisection: the cell of a path with one step more is child 0 or child 1 of the path's
 -- cell. It holds over any dimension, root and path, and said of codes over those that are good.
-use mathlib.Core.Path.{_≡_, refl, sym, ap, _∙_, subst}
+use mathlib.Core.Path.{_≡_, refl, sym, ap, _∙_}
 use mathlib.Core.List.{List, [], _∷_, _++_}
 use Prim.Native.Nat.{ℕ, suc, _+_, _≤_, _<_}
 use native.Mathlib.Omega.{arith}

@@ -1,8 +1,8 @@
 -- The byte check against names: a byte string passes exactly when it is the bytes of a name that is a cell's.
 use mathlib.Core.Path.{_≡_, refl, sym, ap, _∙_, subst}
-use mathlib.Core.Bool.{Bool, true, false, cond, not, _&&_}
+use mathlib.Core.Bool.{Bool, true, false, not, _&&_}
 use mathlib.Core.List.{List, [], _∷_, _++_}
-use Prim.Native.Nat.{ℕ, zero, suc, _+_, _-_, _*_, _/_, _%_, _^_, _≤_, _<_}
+use Prim.Native.Nat.{ℕ, zero, suc, _+_, _-_, _^_, _≤_, _<_}
 use native.Mathlib.Omega.{arith}
 use native.Mathlib.Decide.{ℕ-discrete, decLt}
 use lib.Dec.{T, eqb, leb, ltb}
@@ -10,7 +10,7 @@ use lib.ListN.{length, getD, take, drop, length-take, length-drop, length-append
 use lib.Seq.{take-at, drop-at, drop-drop}
 use borrow.Author.Tests.{lt-ltb, le-leb, eq-eqb, ne-eqb, leb-true, ltb-true, eqb-true, eqb-false, not-true}
 use Rattle.dimension.specs.Sizes.{isDimension, greatestDepth, codeLength, splitPlace, boxDepth}
-use Rattle.dimension.specs.Laws.{Dimension, dimension}
+use Rattle.dimension.specs.Laws.{dimension}
 use Rattle.bisection.specs.Codes.{axis, minus, Name, bytes, dimensionOf, depthOf, entriesOf, orthantsOf, partsOf}
 use Rattle.bisection.specs.Refusals.{done, each, fresh, permutes, orthantsFit, ownMinus, sameSign, signsOwn, headRefusal, lengthOf, bodyRefusal, codeRefusal}
 use Rattle.bisection.specs.Theorems.Ladders.{first-is, all-hold, holds, past, held-at}

@@ -1,17 +1,17 @@
 -- Codes as bytes against roots and paths. Every code of a good root and a good path passes; every byte string
 -- that passes is the code of exactly one good root and good path; the child's code is the step of the code, and
 -- the parent's code is the one whose step it is.
-use mathlib.Core.Path.{_≡_, refl, sym, ap, _∙_, subst}
-use mathlib.Core.Bool.{Bool, true, false}
+use mathlib.Core.Path.{_≡_, refl, sym, ap, _∙_}
+use mathlib.Core.Bool.{true}
 use mathlib.Core.List.{List, [], _∷_, _++_}
-use Prim.Native.Nat.{ℕ, zero, suc, _+_, _-_, _≤_, _<_}
+use Prim.Native.Nat.{ℕ, suc, _+_, _-_, _≤_, _<_}
 use native.Mathlib.Omega.{arith}
 use native.Mathlib.Nat.{zero-add}
-use lib.ListN.{length, getD, length-append}
-use Rattle.dimension.specs.Sizes.{isDimension, greatestDepth}
-use Rattle.dimension.specs.Laws.{Dimension, dimension}
+use lib.ListN.{length, length-append}
+use Rattle.dimension.specs.Sizes.{isDimension}
+use Rattle.dimension.specs.Laws.{dimension}
 use Rattle.bisection.specs.Roots.{Permutation, GoodRoot, GoodPath}
-use Rattle.bisection.specs.Codes.{Name, step, rootName, nameBelow, nameOf, bytes, codeOf, IsCodeOf, dimensionOf, depthOf, partsOf}
+use Rattle.bisection.specs.Codes.{Name, step, rootName, nameOf, bytes, codeOf, IsCodeOf, dimensionOf, depthOf, partsOf}
 use Rattle.bisection.specs.Refusals.{done, codeRefusal}
 use Rattle.bisection.specs.Theorems.Passing.{Passes, parentName, parent-step, step-passes}
 use Rattle.bisection.specs.Theorems.Paths.{pathTo, rootTo, Steps, root-passes, below-passes, path-below, root-below, length-path, steps-path, root-root, name-again, below-snoc}

@@ -1,27 +1,27 @@
 -- The cell of a root and a path is drawn by its name, for every dimension d: on the axis of each entry the
 -- vertices have the closed form, in the box whose low corner the orthant bytes give.
 use mathlib.Core.Path.{_≡_, refl, sym, ap, _∙_, subst}
-use mathlib.Core.Bool.{Bool, true, false, cond, not}
+use mathlib.Core.Bool.{Bool, true, false, cond}
 use mathlib.Core.List.{List, [], _∷_, _++_}
-use mathlib.Core.Logic.{_⊎_, inl, inr, ⊎-elim, _≢_}
-use Prim.Native.Nat.{ℕ, zero, suc, _+_, _-_, _*_, _/_, _%_, _≤_, _<_}
+use mathlib.Core.Logic.{_⊎_, ⊎-elim, _≢_}
+use Prim.Native.Nat.{ℕ, zero, suc, _+_, _-_, _/_, _≤_, _<_}
 use native.Mathlib.Omega.{arith}
 use native.Mathlib.Nat.{add-zero, add-suc, suc-add, zero-add}
-use native.Mathlib.Decide.{decLt, decLe, ℕ-discrete}
-use lib.Dec.{T, eqb, leb, leb·suc-suc, leb·suc-zero, leb·zero}
-use lib.ListN.{length, getD, take, drop, set, replicate, length-set, length-replicate, getD-replicate}
+use native.Mathlib.Decide.{decLe, ℕ-discrete}
+use lib.Dec.{eqb, leb, leb·suc-suc, leb·suc-zero, leb·zero}
+use lib.ListN.{length, getD, set, replicate, length-set, length-replicate}
 use lib.Seq.{getD-set-same, getD-set-other, set-split}
-use borrow.Author.Tests.{le-leb, lt-leb, eq-eqb, ne-eqb}
+use borrow.Author.Tests.{le-leb, lt-leb}
 use Rattle.dimension.specs.Sizes.{cubeSide, greatestDepth, splitPlace, boxDepth, boxSide, sideAfter, level}
 use Rattle.dimension.specs.Laws.{Within, Turned, deeper, split-range, at-root, side-first, side-half, side-even, box-under}
-use Rattle.bisection.specs.Cells.{Point, Cell, coordinate, vertex, midpoint, child, moved, corners, rootCell, cellBelow, cellOf}
-use Rattle.bisection.specs.Roots.{Permutation, GoodRoot, GoodPath}
-use Rattle.bisection.specs.Codes.{axis, minus, negated, turned, stepped, high, orthant, Name, step, rootName, nameBelow, nameOf}
+use Rattle.bisection.specs.Cells.{Point, Cell, coordinate, vertex, midpoint, child, moved, corners, rootCell, cellBelow}
+use Rattle.bisection.specs.Roots.{Permutation}
+use Rattle.bisection.specs.Codes.{axis, minus, turned, stepped, high, orthant, Name, step, rootName, nameBelow}
 use Rattle.bisection.specs.Theorems.Lists.{shifted, shifted-before, shifted-at, shifted-past, shifted-length, getD-midpoint, length-midpoint}
 use Rattle.bisection.specs.Theorems.Axis.{closed, closed-near, closed-far, row0, row1, row0-at, row0-other, row1-before, row1-at, row1-past, Order, order, under, same, over, child0-closed, child1-moved, child1-first, child1-past, halfLow, level-end}
 use Rattle.bisection.specs.Theorems.Entries.{Signed, axis-negated, minus-negated, turned-before, turned-at, turned-past}
 use Rattle.bisection.specs.Theorems.Passing.{Passes, step-passes, orthant-high, signed-stepped}
-use Rattle.bisection.specs.Theorems.Paths.{root-passes, plain-minus, plain-axis}
+use Rattle.bisection.specs.Theorems.Paths.{plain-minus, plain-axis}
 
 -- the low side of the box on axis a: the sum over t of (bit a of orthant t) times the side after t halvings,
 -- the first orthant of the list halving for the (M + 1)th time

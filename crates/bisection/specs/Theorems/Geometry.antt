@@ -1,24 +1,23 @@
 -- The cell of a good root and a good path, for every dimension: its vertices have the closed form; where it is
 -- split the midpoint is whole; and a signed entry among the first k is a move by the box's side on its axis.
 use mathlib.Core.Path.{_≡_, refl, sym, ap, _∙_, subst}
-use mathlib.Core.Bool.{Bool, true, false, cond, not}
-use mathlib.Core.List.{List, [], _∷_, _++_}
+use mathlib.Core.Bool.{Bool, true, false}
+use mathlib.Core.List.{List}
 use mathlib.Core.Logic.{_≢_}
-use Prim.Native.Nat.{ℕ, zero, suc, _+_, _-_, _*_, _/_, _%_, _≤_, _<_}
+use Prim.Native.Nat.{ℕ, suc, _+_, _-_, _%_, _≤_, _<_}
 use native.Mathlib.Omega.{arith}
 use native.Mathlib.Nat.{zero-add}
-use native.Mathlib.Decide.{decLt, decLe, ℕ-discrete}
-use lib.ListN.{length, getD}
-use Rattle.dimension.specs.Sizes.{greatestDepth, splitPlace, boxSide, boxDepth, sideAfter}
+use native.Mathlib.Decide.{decLe}
+use lib.ListN.{length}
+use Rattle.dimension.specs.Sizes.{greatestDepth, splitPlace, boxSide, boxDepth}
 use Rattle.dimension.specs.Laws.{split-range, side-even, box-under}
-use Rattle.bisection.specs.Cells.{Cell, coordinate, vertex, cellOf, cellBelow}
-use Rattle.bisection.specs.Roots.{GoodRoot, GoodPath}
-use Rattle.bisection.specs.Codes.{axis, minus, Name, rootName, nameBelow, nameOf}
+use Rattle.bisection.specs.Cells.{Cell, coordinate, vertex, cellOf}
+use Rattle.bisection.specs.Roots.{GoodRoot}
+use Rattle.bisection.specs.Codes.{axis, minus, Name, rootName, nameOf}
 use Rattle.bisection.specs.Theorems.Axis.{closed, closed-near, closed-far, near, far, sides-even, Order, order, under, same, over}
 use Rattle.bisection.specs.Theorems.Entries.{Signed, Stands, stands}
-use Rattle.bisection.specs.Theorems.Passing.{Passes}
 use Rattle.bisection.specs.Theorems.Paths.{root-passes}
-use Rattle.bisection.specs.Theorems.Drawn.{Drawn, Sized, boxLow, along, entry, drawn-root, drawn-below}
+use Rattle.bisection.specs.Theorems.Drawn.{Drawn, boxLow, along, entry, drawn-root, drawn-below}
 use Rattle.bisection.specs.Theorems.CodePaths.{some-axes, few-axes, name-passes}
 
 -- the closed form of the vertices, with the box given by the orthant bytes

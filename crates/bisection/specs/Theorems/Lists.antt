@@ -1,7 +1,7 @@
 -- Lists read by their places: a list shifted left with one element put behind, and the midpoint of two points.
 use mathlib.Core.Path.{_≡_, refl, sym, ap, _∙_, subst}
 use mathlib.Core.List.{List, [], _∷_, _++_}
-use Prim.Native.Nat.{ℕ, zero, suc, _+_, _-_, _/_, _≤_, _<_}
+use Prim.Native.Nat.{ℕ, zero, suc, _+_, _-_, _/_, _<_}
 use native.Mathlib.Omega.{arith}
 use native.Mathlib.Numerals.{one-add}
 use lib.ListN.{length, getD, take, drop, length-take, length-drop, length-append, List·getD-append}

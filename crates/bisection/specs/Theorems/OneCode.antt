@@ -3,24 +3,22 @@
 -- and far tell the sign and the box, and the box its orthants.
 use mathlib.Core.Path.{_≡_, refl, sym, ap, _∙_, subst}
 use mathlib.Core.Bool.{Bool, true, false, cond, not}
-use mathlib.Core.List.{List, [], _∷_, _++_}
+use mathlib.Core.List.{List, [], _∷_}
 use mathlib.Core.Logic.{_≢_}
-use Prim.Native.Nat.{ℕ, zero, suc, _+_, _-_, _*_, _/_, _%_, _^_, _≤_, _<_}
+use Prim.Native.Nat.{ℕ, zero, suc, _+_, _-_, _*_, _/_, _%_, _≤_, _<_}
 use native.Mathlib.Omega.{arith}
-use native.Mathlib.Nat.{add-suc, suc-add}
-use native.Mathlib.Decide.{decLt, decLe, ℕ-discrete}
+use native.Mathlib.Decide.{decLt, decLe}
 use lib.ListN.{length, getD}
 use lib.Seq.{ext-getD}
 use Rattle.dimension.specs.Sizes.{halvings, greatestDepth, splitPlace, boxDepth, boxSide, sideAfter}
 use Rattle.dimension.specs.Laws.{Side, side-of, split-range, box-in, side-same, side-pos, side-twice, depth-same}
-use Rattle.bisection.specs.Cells.{Cell, coordinate, vertex, cellOf}
-use Rattle.bisection.specs.Roots.{GoodRoot, GoodPath}
-use Rattle.bisection.specs.Codes.{axis, minus, high, Name, nameOf, bytes, codeOf, IsCodeOf}
+use Rattle.bisection.specs.Cells.{Cell, cellOf}
+use Rattle.bisection.specs.Codes.{axis, minus, high, Name, nameOf, codeOf, IsCodeOf}
 use Rattle.bisection.specs.Theorems.Axis.{closed, closed-near, closed-far, closed-middle, near, far}
 use Rattle.bisection.specs.Theorems.Orthants.{bits-same}
-use Rattle.bisection.specs.Theorems.Entries.{Signed, Stands, stands, entry-same}
-use Rattle.bisection.specs.Theorems.Passing.{Passes, Boxes}
-use Rattle.bisection.specs.Theorems.Drawn.{Drawn, Sized, boxLow, along, entry}
+use Rattle.bisection.specs.Theorems.Entries.{Stands, stands, entry-same}
+use Rattle.bisection.specs.Theorems.Passing.{Passes}
+use Rattle.bisection.specs.Theorems.Drawn.{Drawn, boxLow, along, entry}
 use Rattle.bisection.specs.Theorems.CodePaths.{some-axes, name-passes}
 use Rattle.bisection.specs.Theorems.Geometry.{closed-form}
 

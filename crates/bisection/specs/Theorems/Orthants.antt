@@ -1,19 +1,19 @@
 -- Orthant bytes as masks of axes: the orthant of a permutation is high just where the axis has a minus, has no
 -- bit at d or above, and a byte is known by its bits.
 use mathlib.Core.Path.{_≡_, refl, sym, ap, _∙_, subst}
-use mathlib.Core.Bool.{Bool, true, false, cond, not}
+use mathlib.Core.Bool.{Bool, true, false, cond}
 use mathlib.Core.List.{List, [], _∷_, _++_}
 use Prim.Native.Nat.{ℕ, zero, suc, _+_, _-_, _*_, _/_, _%_, _^_, _≤_, _<_}
 use native.Mathlib.Omega.{arith}
 use native.Mathlib.Nat.{mul-add-div-right, mod-lt, mul-assoc}
-use native.Mathlib.Decide.{ℕ-discrete, decLt}
-use lib.Dec.{T, eqb}
-use lib.ListN.{length, getD, length-append}
+use native.Mathlib.Decide.{ℕ-discrete}
+use lib.Dec.{eqb}
+use lib.ListN.{length, length-append}
 use lib.Seq.{getD-at}
 use lib.Pow.{pow-pos, pow-add, split, shr-lt}
 use lib.Pow.{high as high-part}
-use borrow.Author.Tests.{eq-eqb, ne-eqb, eqb-true, eqb-false}
-use Rattle.bisection.specs.Codes.{axis, minus, high, minusOn, orthantTo, orthant}
+use borrow.Author.Tests.{eq-eqb, eqb-true}
+use Rattle.bisection.specs.Codes.{high, minusOn, orthantTo}
 use Rattle.bisection.specs.Refusals.{ownMinus}
 
 -- a higher digit does not show in a lower bit

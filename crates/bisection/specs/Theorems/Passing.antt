@@ -3,19 +3,19 @@
 use mathlib.Core.Path.{_≡_, refl, sym, ap, _∙_, subst}
 use mathlib.Core.Bool.{Bool, true, false, cond, not}
 use mathlib.Core.List.{List, [], _∷_, _++_}
-use mathlib.Core.Logic.{_⊎_, inl, inr, ⊎-elim, _≢_}
+use mathlib.Core.Logic.{_⊎_, ⊎-elim}
 use Prim.Native.Nat.{ℕ, zero, suc, _+_, _-_, _^_, _≤_, _<_}
 use native.Mathlib.Omega.{arith}
-use native.Mathlib.Decide.{decLt, decLe, ℕ-discrete}
-use lib.Dec.{T, eqb}
-use lib.ListN.{length, getD, take, drop, length-take, length-append, List·getD-append}
+use native.Mathlib.Decide.{decLt, ℕ-discrete}
+use lib.Dec.{eqb}
+use lib.ListN.{length, getD, take, length-take, length-append, List·getD-append}
 use lib.Seq.{getD-take, take-suc, take-all, take-at, getD-at}
 use Rattle.dimension.specs.Sizes.{level, splitPlace, boxDepth}
-use Rattle.dimension.specs.Laws.{Within, Turned, deeper, split-range, at-root}
-use Rattle.bisection.specs.Codes.{axis, minus, negated, turned, stepped, high, orthantTo, orthant, Name, step, rootName}
+use Rattle.dimension.specs.Laws.{Within, Turned, deeper, split-range}
+use Rattle.bisection.specs.Codes.{axis, minus, stepped, high, orthant, Name, step}
 use Rattle.bisection.specs.Refusals.{ownMinus, sameSign}
 use Rattle.bisection.specs.Theorems.Orthants.{orthantTo-fits, orthantTo-high, bits-same, own-snoc}
-use Rattle.bisection.specs.Theorems.Entries.{Signed, Stands, stands, minusOn-entry, axis-negated, minus-negated, turned-before, turned-at, turned-past, unturned, unturned-moved, signed-turned, signed-unturned, turned-unturned, unturned-turned, turned-length}
+use Rattle.bisection.specs.Theorems.Entries.{Signed, Stands, stands, minusOn-entry, axis-negated, minus-negated, turned-before, turned-at, unturned, unturned-moved, signed-turned, signed-unturned, turned-unturned, unturned-turned}
 
 -- the entries i below k carry the box's own sign
 pub record Own (k : ℕ) (es os : List ℕ) : Type 0 where

@@ -1,23 +1,20 @@
 -- Roots and paths against names, for every dimension d: the name of a root and a path is a cell's, the way up
 -- from it gives the root and the path back, and every name that is a cell's is got so.
 use mathlib.Core.Path.{_≡_, refl, sym, ap, _∙_, subst}
-use mathlib.Core.Bool.{Bool, true, false, cond}
+use mathlib.Core.Bool.{false}
 use mathlib.Core.List.{List, [], _∷_, _++_, append-assoc}
-use Prim.Native.Nat.{ℕ, zero, suc, _+_, _-_, _/_, _%_, _^_, _≤_, _<_}
+use Prim.Native.Nat.{ℕ, zero, suc, _+_, _-_, _^_, _≤_, _<_}
 use native.Mathlib.Omega.{arith}
 use native.Mathlib.Nat.{zero-div, add-zero, add-suc, suc-add, zero-add}
 use native.Mathlib.Decide.{decLt}
-use lib.Dec.{eqb, leb}
 use lib.ListN.{length, getD, length-append, List·getD-append}
 use lib.Seq.{getD-at}
-use borrow.Author.Tests.{lt-leb, leb-false}
-use Rattle.dimension.specs.Sizes.{splitPlace, boxDepth, level}
+use borrow.Author.Tests.{lt-leb}
 use Rattle.dimension.specs.Laws.{at-root}
 use Rattle.bisection.specs.Roots.{Permutation}
-use Rattle.bisection.specs.Codes.{axis, minus, high, Name, step, rootName, nameBelow, nameOf}
+use Rattle.bisection.specs.Codes.{axis, minus, high, Name, step, rootName, nameBelow}
 use Rattle.bisection.specs.Refusals.{ownMinus}
-use Rattle.bisection.specs.Theorems.Entries.{Signed}
-use Rattle.bisection.specs.Theorems.Passing.{Own, Boxes, Passes, lastStep, parentName, step-passes, last-step, parent-step, parent-passes, step-parent, last-small}
+use Rattle.bisection.specs.Theorems.Passing.{Passes, lastStep, parentName, step-passes, last-step, parent-step, parent-passes, step-parent, last-small}
 
 -- the way up from a name at depth D: its steps, and the root
 unfoldable pub pathTo : ℕ → ℕ → Name → List ℕ

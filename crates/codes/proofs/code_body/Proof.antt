@@ -1,6 +1,6 @@
 -- `code_body` meets its contract: each way out is one of the order of refusals.
 use mathlib.Core.Path.{_≡_, sym, ap, _∙_}
-use Prim.Native.Nat.{ℕ, _+_, _≤_}
+use Prim.Native.Nat.{ℕ}
 use native.Mathlib.Omega.{arith}
 use borrow.Author.Tests.{not-true, not-false}
 use Rattle.dimension.specs.Sizes.{splitPlace}

@@ -6,9 +6,6 @@ use borrow.Author.Needs.{needs}
 use Rattle.codes.proofs.path_to_code.Statement.{statement}
 use Rattle.codes.proofs.path_to_code.Tie as tie
 
-path-in-requires : tie.Need-path-in-requires
-path-in-requires c κs = let h = c .before .before .dim .given in subst (KnownIs _) (h .1) (c .before .before .before .before .of .ensures)
-
 returns : tie.Need-returns
 returns c = let h = c .before .enum-told .given in path-dimension _ _ _ (subst (KnownIs _) (h .1) (c .before .before .before .of .ensures)) (c .refused .ensures)
 
@@ -20,7 +17,7 @@ path-to-code-spec =
     (λ c. search needs)
     (λ c κs. search needs)
     (λ c. search needs)
-    path-in-requires
+    (λ c κs. let h = c .before .before .dim .given in subst (KnownIs _) (h .1) (c .before .before .before .before .of .ensures))
     returns
     (λ c. search needs)
     (λ c. search needs))

@@ -1,16 +1,15 @@
 -- The laws of a code at the front of bytes: how its head and what stands inside make up the code's refusal, and what becomes of
 -- a code that passes where more bytes follow it. The first four open the names for the code layer itself.
-use mathlib.Core.Path.{_≡_, refl, sym, ap, _∙_, subst}
+use mathlib.Core.Path.{_≡_, refl, sym, ap, _∙_}
 use mathlib.Core.Bool.{true}
 use mathlib.Core.List.{List, _++_}
-use Prim.Native.Nat.{ℕ, suc, _+_, _≤_, _<_, min}
+use Prim.Native.Nat.{ℕ, _+_, _≤_}
 use native.Mathlib.Omega.{arith}
-use lib.Dec.{leb, eqb}
-use lib.ListN.{length, getD, take, drop, length-append, length-take, take-append-drop, List·getD-append}
+use lib.ListN.{length, take, drop, length-take, take-append-drop, List·getD-append}
 use lib.Seq.{take-at, getD-take}
 use borrow.Author.Tests.{leb-true, le-leb, eqb-true, eq-eqb}
 use Rattle.dimension.specs.Sizes.{isDimension, codeLength}
-use Rattle.bisection.specs.Codes.{codeOf, IsCodeOf, dimensionOf, depthOf}
+use Rattle.bisection.specs.Codes.{IsCodeOf, dimensionOf, depthOf}
 use Rattle.bisection.specs.Refusals.{done, headRefusal, lengthOf, bodyRefusal, codeRefusal}
 use Rattle.bisection.specs.Theorems.Ladders.{first-is, holds, past, own-last, held-at}
 use Rattle.bisection.specs.Theorems.CodePaths.{length-root}

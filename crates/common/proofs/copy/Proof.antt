@@ -1,7 +1,7 @@
 -- `copy` meets its contract. The loop keeps: i bytes are copied.
-use mathlib.Core.Path.{_≡_, refl, sym, ap, _∙_}
-use Prim.Native.Nat.{ℕ, suc, _+_, _-_, _≤_, _<_}
-use lib.ListN.{length, getD, take, drop, length-set, length-drop}
+use mathlib.Core.Path.{_≡_, refl}
+use Prim.Native.Nat.{_-_, _≤_}
+use lib.ListN.{length, drop, length-set}
 use native.Mathlib.Omega.{arith}
 use lib.Seq.{paste, paste-zero}
 use Rattle.common.specs.Copied.{copied-next}
@@ -15,9 +15,6 @@ Inv-loop src from n dst₀ to i₀ dst i = (i ≤ n) × (length dst ≡ length d
 abbrev μ-loop : tie.MeasureT-loop
 μ-loop src from n dst₀ to i₀ dst i = n - i
 
-loop-holds : tie.Need-loop-holds Inv-loop μ-loop
-loop-holds c = (omega arith, refl, paste-zero (c .args .dst .now) (c .args .to) (drop (c .args .from) (c .args .src .now)))
-
 loop-again : tie.Need-loop-again Inv-loop μ-loop
 loop-again c =
     let args = c .before .before .before .args in
@@ -28,16 +25,13 @@ loop-again c =
           (copied-next (args .dst .now) (args .to) (args .from) (args .src .now) (c .before .before .loop .i) (omega arith) (omega arith)),
     )
 
-returns : tie.Need-returns Inv-loop μ-loop
-returns c = let e : c .before .loop .i ≡ c .before .before .args .n = omega arith in rw (← e) (c .before .loop .inv .2)
-
 pub copy-spec : {M : Type 1} → statement M
 copy-spec =
     tie.close
     (tie.spec
     Inv-loop
     μ-loop
-    loop-holds
+    (λ c. (omega arith, refl, paste-zero (c .args .dst .now) (c .args .to) (drop (c .args .from) (c .args .src .now))))
     (λ c. search needs)
     (λ c. search needs)
     (λ c. search needs)
@@ -46,4 +40,4 @@ copy-spec =
     (λ c. search needs)
     loop-again
     (λ c. search needs)
-    returns)
+    (λ c. let e : c .before .loop .i ≡ c .before .before .args .n = omega arith in rw (← e) (c .before .loop .inv .2)))

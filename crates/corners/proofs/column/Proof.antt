@@ -13,9 +13,6 @@ Inv-loop points₀ d axis line j₀ points j = (j ≤ d + 1) × Column d axis (o
 abbrev μ-loop : tie.MeasureT-loop
 μ-loop points₀ d axis line j₀ points j = d + 1 - j
 
-loop-holds : tie.Need-loop-holds Inv-loop μ-loop
-loop-holds c = (omega arith, column-none _ _ _ _)
-
 mul-put : tie.Need-mul-put Inv-loop μ-loop
 mul-put c =
     let s = c .before .before .before .before in omega (
@@ -25,9 +22,6 @@ mul-put c =
           (omega (arith, c .before .loop-test .taken)),
     )
 
-sub-put : tie.Need-sub-put Inv-loop μ-loop
-sub-put c = omega (arith, c .before .before .before .before .pre .low)
-
 add-put : tie.Need-add-put Inv-loop μ-loop
 add-put c =
     let s = c .before .before .before .before in omega (
@@ -36,9 +30,6 @@ add-put c =
       spot-under (s .args .d) (c .before .before .loop .j) (s .args .axis) (s .pre .low) (s .pre .high)
           (omega (arith, c .before .loop-test .taken)),
     )
-
-coordinate-requires : tie.Need-coordinate-requires Inv-loop μ-loop
-coordinate-requires c κs = fair-below (c .before .before .before .before .pre .fair) (c .before .before .loop .j) (omega (arith, c .before .loop-test .taken))
 
 put-requires : tie.Need-put-requires Inv-loop μ-loop
 put-requires c κs =
@@ -51,9 +42,6 @@ put-requires c κs =
           (omega (arith, c .before .before .loop-test .taken)),
     )
 
-add-j : tie.Need-add-j Inv-loop μ-loop
-add-j c = omega (arith, c .before .before .before .before .before .before .before .before .pre .few)
-
 loop-again : tie.Need-loop-again Inv-loop μ-loop
 loop-again c =
     let loop = c .before .before .before .before .before .before .loop in
@@ -65,26 +53,20 @@ loop-again c =
           (c .before .before .put .ensures),
     )
 
-same-length : tie.Need-same-length Inv-loop μ-loop
-same-length c = c .before .loop .inv .1 .size
-
-returns : tie.Need-returns Inv-loop μ-loop
-returns c = column-all (c .before .loop .inv .0) (omega (arith, c .loop-test .left)) (c .before .loop .inv .1)
-
 pub column-spec : {M : Type 1} → statement M
 column-spec =
     tie.close
     (tie.spec
     Inv-loop
     μ-loop
-    loop-holds
+    (λ c. (omega arith, column-none _ _ _ _))
     mul-put
-    sub-put
+    (λ c. omega (arith, c .before .before .before .before .pre .low))
     add-put
-    coordinate-requires
+    (λ c κs. fair-below (c .before .before .before .before .pre .fair) (c .before .before .loop .j) (omega (arith, c .before .loop-test .taken)))
     put-requires
-    add-j
+    (λ c. omega (arith, c .before .before .before .before .before .before .before .before .pre .few))
     (λ c. search needs)
     loop-again
-    same-length
-    returns)
+    (λ c. c .before .loop .inv .1 .size)
+    (λ c. column-all (c .before .loop .inv .0) (omega (arith, c .loop-test .left)) (c .before .loop .inv .1)))

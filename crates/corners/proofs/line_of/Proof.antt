@@ -5,21 +5,6 @@ use borrow.Author.Needs.{needs}
 use Rattle.corners.proofs.line_of.Statement.{statement}
 use Rattle.corners.proofs.line_of.Tie as tie
 
-add-e : tie.Need-add-e
-add-e c = let s = c .before in omega (arith, line-room (s .pre), s .good)
-
-shared-slice-read-e : tie.Need-shared-slice-read-e
-shared-slice-read-e c = line-room (c .before .before .pre)
-
-shared-slice-read-size : tie.Need-shared-slice-read-size
-shared-slice-read-size c = omega (arith, line-room (c .before .before .before .pre))
-
-low-side-requires : tie.Need-low-side-requires
-low-side-requires c κs = line-low-ready (c .before .before .before .before .before .pre) _ (c .axis-of .ensures)
-
-box-side-requires : tie.Need-box-side-requires
-box-side-requires c κs = line-depth (c .before .before .before .before .before .before .pre) _ (c .before .before .size .ensures)
-
 returns : tie.Need-returns
 returns c =
     let pre = c .before .before .before .before .before .before .before .before .before .pre in
@@ -33,13 +18,13 @@ pub line-of-spec : {M : Type 1} → statement M
 line-of-spec =
     tie.close
     (tie.spec
-    add-e
-    shared-slice-read-e
-    shared-slice-read-size
+    (λ c. let s = c .before in omega (arith, line-room (s .pre), s .good))
+    (λ c. line-room (c .before .before .pre))
+    (λ c. omega (arith, line-room (c .before .before .before .pre)))
     (λ c κs. search needs)
     (λ c κs. search needs)
-    low-side-requires
-    box-side-requires
+    (λ c κs. line-low-ready (c .before .before .before .before .before .pre) _ (c .axis-of .ensures))
+    (λ c κs. line-depth (c .before .before .before .before .before .before .pre) _ (c .before .before .size .ensures))
     (λ c κs. search needs)
     (λ c κs. search needs)
     returns)

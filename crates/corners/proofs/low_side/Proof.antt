@@ -15,12 +15,6 @@ Inv-loop code axis low₀ side₀ i₀ low side i = (i ≤ length code) × LowSo
 abbrev μ-loop : tie.MeasureT-loop
 μ-loop code axis low₀ side₀ i₀ low side i = length code - i
 
-box-side-requires : tie.Need-box-side-requires Inv-loop μ-loop
-box-side-requires c κs = omega arith
-
-add-i : tie.Need-add-i Inv-loop μ-loop
-add-i c = let s = c .before .before .before in omega (arith, c .axes .ensures, s .pre .2, s .good)
-
 loop-holds : tie.Need-loop-holds Inv-loop μ-loop
 loop-holds c =
     let s = c .before .before .before in (
@@ -28,9 +22,6 @@ loop-holds c =
       low-none _ _ (axesOf (s .args .dim)) (omega (arith, axes-range (s .args .dim) .two)) _
           (c .before .box-side .ensures),
     )
-
-is-high-requires : tie.Need-is-high-requires Inv-loop μ-loop
-is-high-requires c κs = let s = c .before .before .before .before .before .before in (s .pre .0, s .pre .1)
 
 add-low : tie.Need-add-low Inv-loop μ-loop
 add-low c =
@@ -62,12 +53,12 @@ low-side-spec =
     (tie.spec
     Inv-loop
     μ-loop
-    box-side-requires
+    (λ c κs. omega arith)
     (λ c κs. search needs)
-    add-i
+    (λ c. let s = c .before .before .before in omega (arith, c .axes .ensures, s .pre .2, s .good))
     loop-holds
     (λ c. search needs)
-    is-high-requires
+    (λ c κs. let s = c .before .before .before .before .before .before in (s .pre .0, s .pre .1))
     (λ c. search needs)
     add-low
     (λ c. search needs)

@@ -5,19 +5,10 @@ use borrow.Author.Needs.{needs}
 use Rattle.corners.proofs.moved.Statement.{statement}
 use Rattle.corners.proofs.moved.Tie as tie
 
-add-y : tie.Need-add-y
-add-y c = moved-fits (c .args .x) (c .args .step) (omega arith) (c .fits .step) (c .pre)
-
-cast-result : tie.Need-cast-result
-cast-result c = moved-casts (c .args .x) (c .args .step) (omega arith) (c .fits .step) (c .pre)
-
-returns : tie.Need-returns
-returns c = moved-value (c .args .x) (c .args .step) (omega arith) (c .fits .step) (c .pre)
-
 pub moved-spec : {M : Type 1} → statement M
 moved-spec = tie.close
     (tie.spec
     (λ c. search needs)
-    add-y
-    cast-result
-    returns)
+    (λ c. moved-fits (c .args .x) (c .args .step) (omega arith) (c .fits .step) (c .pre))
+    (λ c. moved-casts (c .args .x) (c .args .step) (omega arith) (c .fits .step) (c .pre))
+    (λ c. moved-value (c .args .x) (c .args .step) (omega arith) (c .fits .step) (c .pre)))

@@ -4,15 +4,9 @@ use borrow.Author.Needs.{needs}
 use Rattle.corners.proofs.near_side.Statement.{statement}
 use Rattle.corners.proofs.near_side.Tie as tie
 
-returns : tie.Need-returns
-returns c = rw (c .if1 .taken) refl
-
-returns-2 : tie.Need-returns-2
-returns-2 c = rw (c .if1 .left) refl
-
 pub near-side-spec : {M : Type 1} → statement M
 near-side-spec = tie.close
     (tie.spec
     (λ c. search needs)
-    returns
-    returns-2)
+    (λ c. rw (c .if1 .taken) refl)
+    (λ c. rw (c .if1 .left) refl))

@@ -4,9 +4,6 @@ use borrow.Author.Needs.{needs}
 use Rattle.corners.proofs.put.Statement.{statement}
 use Rattle.corners.proofs.put.Tie as tie
 
-returns : tie.Need-returns
-returns c = put-done (c .args .n) (c .args .x) (c .args .points .now) (c .pre)
-
 pub put-spec : {M : Type 1} → statement M
 put-spec =
     tie.close
@@ -19,4 +16,4 @@ put-spec =
     (λ c. search needs)
     (λ c. search needs)
     (λ c. search needs)
-    returns)
+    (λ c. put-done (c .args .n) (c .args .x) (c .args .points .now) (c .pre)))

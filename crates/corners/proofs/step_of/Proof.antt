@@ -5,19 +5,10 @@ use borrow.Author.Needs.{needs}
 use Rattle.corners.proofs.step_of.Statement.{statement}
 use Rattle.corners.proofs.step_of.Tie as tie
 
-sub-result : tie.Need-sub-result
-sub-result c = step-down-fits (c .before .args .side) (omega arith)
-
-returns : tie.Need-returns
-returns c = step-down (c .before .args .side) (omega arith) (c .before .args .minus) (c .if1 .taken)
-
-returns-2 : tie.Need-returns-2
-returns-2 c = step-up (c .before .args .side) (omega arith) (c .before .args .minus) (c .if1 .left)
-
 pub step-of-spec : {M : Type 1} → statement M
 step-of-spec = tie.close
     (tie.spec
     (λ c. search needs)
-    sub-result
-    returns
-    returns-2)
+    (λ c. step-down-fits (c .before .args .side) (omega arith))
+    (λ c. step-down (c .before .args .side) (omega arith) (c .before .args .minus) (c .if1 .taken))
+    (λ c. step-up (c .before .args .side) (omega arith) (c .before .args .minus) (c .if1 .left)))

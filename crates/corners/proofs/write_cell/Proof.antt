@@ -16,15 +16,9 @@ Inv-loop code points₀ dim d i₀ points i = (i ≤ d) × Columns (dimensionOf 
 abbrev μ-loop : tie.MeasureT-loop
 μ-loop code points₀ dim d i₀ points i = d - i
 
-shared-slice-read-checked : tie.Need-shared-slice-read-checked Inv-loop μ-loop
-shared-slice-read-checked c = let s = c .before .before .before in omega (arith, code-room (s .args .code .now) (s .pre .passing))
-
 checked-requires : tie.Need-checked-requires Inv-loop μ-loop
 unfolding dimensionOf
 checked-requires c κs = let s = c .before .before .before in good (s .args .code .now) (s .pre .passing) .dimension
-
-loop-holds : tie.Need-loop-holds Inv-loop μ-loop
-loop-holds c = (omega arith, columns-none _ _ _ _)
 
 add-axis-of : tie.Need-add-axis-of Inv-loop μ-loop
 unfolding dimensionOf
@@ -86,9 +80,6 @@ loop-again c =
           (size .ensures ∙ axis-of .ensures) (line-of .ensures) (loop .inv .1) (c .before .before .column .ensures),
     )
 
-same-length : tie.Need-same-length Inv-loop μ-loop
-same-length c = c .before .loop .inv .1 .size
-
 returns : tie.Need-returns Inv-loop μ-loop
 unfolding dimensionOf
 returns c =
@@ -103,10 +94,10 @@ write-cell-spec =
     (tie.spec
     Inv-loop
     μ-loop
-    shared-slice-read-checked
+    (λ c. let s = c .before .before .before in omega (arith, code-room (s .args .code .now) (s .pre .passing)))
     checked-requires
     (λ c κs. search needs)
-    loop-holds
+    (λ c. (omega arith, columns-none _ _ _ _))
     add-axis-of
     shared-slice-read-axis-of
     (λ c κs. search needs)
@@ -116,5 +107,5 @@ write-cell-spec =
     add-i
     (λ c. search needs)
     loop-again
-    same-length
+    (λ c. c .before .loop .inv .1 .size)
     returns)

@@ -7,27 +7,6 @@ use borrow.Author.Needs.{needs}
 use Rattle.crossing.proofs.cross.Statement.{statement}
 use Rattle.crossing.proofs.cross.Tie as tie
 
-returns : tie.Need-returns
-returns c = search (needs, cross-own)
-
-returns-2 : tie.Need-returns-2
-returns-2 c = search (needs, cross-step)
-
-sub-cross-outside : tie.Need-sub-cross-outside
-sub-cross-outside c = search (needs, facing-some)
-
-shared-slice-read-cross-outside : tie.Need-shared-slice-read-cross-outside
-shared-slice-read-cross-outside c = search (needs, facing-last)
-
-cross-outside-requires : tie.Need-cross-outside-requires
-cross-outside-requires c κs = search (needs, leaving-last)
-
-shared-slice-read-negate : tie.Need-shared-slice-read-negate
-shared-slice-read-negate c = search (needs, facing-first)
-
-negate-requires : tie.Need-negate-requires
-negate-requires c κs = search (needs, facing-axis)
-
 cross-outside-requires-2 : tie.Need-cross-outside-requires-2
 cross-outside-requires-2 c κs =
     let code-check = c .before .before .before .before .before .before .before .before .before .before .before .before .before .code-check in
@@ -71,22 +50,22 @@ cross-spec =
     (tie.spec
     (λ c κs. search needs)
     (λ c κs. search needs)
-    returns
+    (λ c. search (needs, cross-own))
     (λ c κs. search needs)
     (λ c κs. search needs)
     (λ c κs. search needs)
     (λ c κs. search needs)
-    returns-2
-    sub-cross-outside
+    (λ c. search (needs, cross-step))
+    (λ c. search (needs, facing-some))
     (λ c. search needs)
-    shared-slice-read-cross-outside
-    cross-outside-requires
+    (λ c. search (needs, facing-last))
+    (λ c κs. search (needs, leaving-last))
     (λ c. search needs)
     (λ c. search needs)
     (λ c κs. search needs)
     (λ c κs. search needs)
-    shared-slice-read-negate
-    negate-requires
+    (λ c. search (needs, facing-first))
+    (λ c κs. search (needs, facing-axis))
     cross-outside-requires-2
     (λ c. search needs)
     (λ c. search needs)

@@ -4,12 +4,9 @@ use Rattle.entries.specs.Masks.{high-masked}
 use Rattle.entries.proofs.is_high.Statement.{statement}
 use Rattle.entries.proofs.is_high.Tie as tie
 
-returns : tie.Need-returns
-returns c = high-masked (c .args .orthant) (c .args .axis)
-
 pub is-high-spec : {M : Type 1} → statement M
 is-high-spec = tie.close
     (tie.spec
     (λ c. search needs)
     (λ c. search needs)
-    returns)
+    (λ c. high-masked (c .args .orthant) (c .args .axis)))

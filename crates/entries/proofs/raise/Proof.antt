@@ -4,12 +4,9 @@ use Rattle.entries.specs.Masks.{raised-as}
 use Rattle.entries.proofs.raise.Statement.{statement}
 use Rattle.entries.proofs.raise.Tie as tie
 
-returns : tie.Need-returns
-returns c = raised-as (c .args .orthant) (c .args .axis) (c .pre .0) (c .pre .1)
-
 pub raise-spec : {M : Type 1} → statement M
 raise-spec = tie.close
     (tie.spec
     (λ c. search needs)
     (λ c. search needs)
-    returns)
+    (λ c. raised-as (c .args .orthant) (c .args .axis) (c .pre .0) (c .pre .1)))

@@ -5,20 +5,11 @@ use borrow.Author.Needs.{needs}
 use Rattle.entries.proofs.signed_of.Statement.{statement}
 use Rattle.entries.proofs.signed_of.Tie as tie
 
-returns : tie.Need-returns
-returns c = plus-value (c .before .args .e) (c .if1 .taken)
-
-sub-result : tie.Need-sub-result
-sub-result c = minus-fits (c .before .args .e) (c .if1 .left) (omega arith)
-
-returns-2 : tie.Need-returns-2
-returns-2 c = minus-value (c .before .args .e) (c .if1 .left) (omega arith)
-
 pub signed-of-spec : {M : Type 1} → statement M
 signed-of-spec = tie.close
     (tie.spec
     (λ c. search needs)
-    returns
+    (λ c. plus-value (c .before .args .e) (c .if1 .taken))
     (λ c. search needs)
-    sub-result
-    returns-2)
+    (λ c. minus-fits (c .before .args .e) (c .if1 .left) (omega arith))
+    (λ c. minus-value (c .before .args .e) (c .if1 .left) (omega arith)))

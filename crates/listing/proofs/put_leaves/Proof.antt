@@ -20,9 +20,6 @@ loop-holds c =
     let pre = c .before .before .pre in
     on-start _ _ refl (args .sheet .now) (args .records) (args .from) (args .out .now) (pre .0) (pre .1)
 
-sub-record-parts : tie.Need-sub-record-parts Inv-loop μ-loop
-sub-record-parts c = c .before .loop .inv .inside
-
 record-parts-requires : tie.Need-record-parts-requires Inv-loop μ-loop
 record-parts-requires c κs =
     let loop = c .before .before .loop in
@@ -39,9 +36,6 @@ add-end c =
     let loop = c .before .before .before .before .loop in
     let loop-test = c .before .before .before .loop-test in
     omega (arith, on-line (loop .inv) (loop-test .taken) .code-fits _ (c .before .record-parts .ensures))
-
-sub-put-leaf : tie.Need-sub-put-leaf Inv-loop μ-loop
-sub-put-leaf c = omega arith
 
 part-put-leaf-end : tie.Need-part-put-leaf-end Inv-loop μ-loop
 part-put-leaf-end c =
@@ -77,9 +71,6 @@ loop-again c =
     let put-leaf = c .before .before .before .put-leaf in
     on-line (loop .inv) (loop-test .taken) .next _ (record-parts .ensures) (put-leaf .ensures)
 
-same-length : tie.Need-same-length Inv-loop μ-loop
-same-length c = c .before .loop .inv .putting .size
-
 returns : tie.Need-returns Inv-loop μ-loop
 returns c =
     let pre = c .before .before .before .before .pre in
@@ -92,13 +83,13 @@ put-leaves-spec =
     Inv-loop
     μ-loop
     loop-holds
-    sub-record-parts
+    (λ c. c .before .loop .inv .inside)
     (λ c. search needs)
     (λ c. search needs)
     record-parts-requires
     add-code
     add-end
-    sub-put-leaf
+    (λ c. omega arith)
     (λ c. search needs)
     part-put-leaf-end
     put-leaf-requires
@@ -106,5 +97,5 @@ put-leaves-spec =
     (λ c. search needs)
     loop-less
     loop-again
-    same-length
+    (λ c. c .before .loop .inv .putting .size)
     returns)

@@ -16,26 +16,11 @@ Inv-loop buf₀ from n e a t₀ buf t = (from ≤ t) × (t ≤ n) × (length buf
 abbrev μ-loop : tie.MeasureT-loop
 μ-loop buf₀ from n e a t₀ buf t = t
 
-loop-holds : tie.Need-loop-holds Inv-loop μ-loop
-loop-holds c = (omega (arith, c .before .before .pre .0), omega arith, refl, carrying-none _ _ _ _ (c .before .before .pre .1))
-
-slice-read-orthant : tie.Need-slice-read-orthant Inv-loop μ-loop
-slice-read-orthant c = omega (arith, c .before .before .before .before .before .pre .1)
-
 flip-requires : tie.Need-flip-requires Inv-loop μ-loop
 flip-requires c κs =
     let pre = c .before .before .before .before .before .pre in
     let axis-of = c .before .before .before .axis-of in
     (omega (arith, pre .2, axis-of .ensures), omega (arith, pre .3, axis-of .ensures))
-
-slice-write-buf : tie.Need-slice-write-buf Inv-loop μ-loop
-slice-write-buf c = omega (arith, c .before .before .before .before .before .before .pre .1)
-
-same-sign-requires : tie.Need-same-sign-requires Inv-loop μ-loop
-same-sign-requires c κs = (c .before .before .before .before .before .before .pre .2, c .before .before .before .before .before .before .pre .3)
-
-same-length : tie.Need-same-length Inv-loop μ-loop
-same-length c = simp length-set (c .before .before .before .before .before .loop .inv .2)
 
 returns : tie.Need-returns Inv-loop μ-loop
 returns c =
@@ -57,12 +42,6 @@ loop-again c =
           (axis-of .ensures) (c .before .before .flip .ensures) (sym (c .before .same-sign .ensures) ∙ not-false _ (c .if1 .left)),
     )
 
-same-length-2 : tie.Need-same-length-2 Inv-loop μ-loop
-same-length-2 c = c .before .loop .inv .2
-
-returns-2 : tie.Need-returns-2 Inv-loop μ-loop
-returns-2 c = carrying-all _ _ _ _ (c .before .before .before .before .pre .1) (c .before .loop .inv .3) _ (c .before .loop .inv .0) (c .loop-test .left)
-
 pub carry-spec : {M : Type 1} → statement M
 carry-spec =
     tie.close
@@ -70,15 +49,15 @@ carry-spec =
     Inv-loop
     μ-loop
     (λ c κs. search needs)
-    loop-holds
+    (λ c. (omega (arith, c .before .before .pre .0), omega arith, refl, carrying-none _ _ _ _ (c .before .before .pre .1)))
     (λ c. search needs)
-    slice-read-orthant
+    (λ c. omega (arith, c .before .before .before .before .before .pre .1))
     flip-requires
-    slice-write-buf
-    same-sign-requires
-    same-length
+    (λ c. omega (arith, c .before .before .before .before .before .before .pre .1))
+    (λ c κs. (c .before .before .before .before .before .before .pre .2, c .before .before .before .before .before .before .pre .3))
+    (λ c. simp length-set (c .before .before .before .before .before .loop .inv .2))
     returns
     (λ c. search needs)
     loop-again
-    same-length-2
-    returns-2)
+    (λ c. c .before .loop .inv .2)
+    (λ c. carrying-all _ _ _ _ (c .before .before .before .before .pre .1) (c .before .loop .inv .3) _ (c .before .loop .inv .0) (c .loop-test .left)))

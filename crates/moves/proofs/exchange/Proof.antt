@@ -4,9 +4,6 @@ use borrow.Author.Needs.{needs}
 use Rattle.moves.proofs.exchange.Statement.{statement}
 use Rattle.moves.proofs.exchange.Tie as tie
 
-returns : tie.Need-returns
-returns c = exchange-is (c .before .before .args .buf .now) (c .before .before .args .i) (c .before .before .pre .0)
-
 pub exchange-spec : {M : Type 1} → statement M
 exchange-spec =
     tie.close
@@ -20,4 +17,4 @@ exchange-spec =
     (λ c. search needs)
     (λ c. search needs)
     (λ c. search needs)
-    returns)
+    (λ c. exchange-is (c .before .before .args .buf .now) (c .before .before .args .i) (c .before .before .pre .0)))

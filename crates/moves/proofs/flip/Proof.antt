@@ -4,12 +4,9 @@ use borrow.Author.Needs.{needs}
 use Rattle.moves.proofs.flip.Statement.{statement}
 use Rattle.moves.proofs.flip.Tie as tie
 
-returns : tie.Need-returns
-returns c = flipped-as (c .args .orthant) (c .args .axis) (c .pre .0) (c .pre .1)
-
 pub flip-spec : {M : Type 1} → statement M
 flip-spec = tie.close
     (tie.spec
     (λ c. search needs)
     (λ c. search needs)
-    returns)
+    (λ c. flipped-as (c .args .orthant) (c .args .axis) (c .pre .0) (c .pre .1)))

@@ -5,14 +5,8 @@ use borrow.Author.Needs.{needs}
 use Rattle.moves.proofs.rearrange.Statement.{statement}
 use Rattle.moves.proofs.rearrange.Tie as tie
 
-across-first-requires : tie.Need-across-first-requires
-across-first-requires c κs = at-first (c .before .before .before .pre) (c .before .if1 .taken)
-
 returns : tie.Need-returns
 returns c = within-first _ _ _ (c .before .before .before .before .before .before .args .buf .now) (c .before .before .before .before .if1 .taken) (c .before .before .across-first .ensures)
-
-across-split-requires : tie.Need-across-split-requires
-across-split-requires c κs = at-same (c .before .before .before .before .pre) (c .before .if2 .taken)
 
 returns-2 : tie.Need-returns-2
 returns-2 c =
@@ -35,10 +29,10 @@ pub rearrange-spec : {M : Type 1} → statement M
 rearrange-spec =
     tie.close
     (tie.spec
-    across-first-requires
+    (λ c κs. at-first (c .before .before .before .pre) (c .before .if1 .taken))
     (λ c. search needs)
     returns
-    across-split-requires
+    (λ c κs. at-same (c .before .before .before .before .pre) (c .before .if2 .taken))
     (λ c. search needs)
     returns-2
     exchange-requires

@@ -16,12 +16,6 @@ Inv-loop code from e last₀ last = (from ≤ last) × (last ≤ length code) ×
 abbrev μ-loop : tie.MeasureT-loop
 μ-loop code from e last₀ last = last
 
-loop-holds : tie.Need-loop-holds Inv-loop μ-loop
-loop-holds c = (c .before .pre .0, omega arith, running-none _ _ _)
-
-same-sign-requires : tie.Need-same-sign-requires Inv-loop μ-loop
-same-sign-requires c κs = (c .before .before .before .before .pre .1, c .before .before .before .before .pre .2)
-
 returns : tie.Need-returns Inv-loop μ-loop
 returns c =
     let loop = c .before .before .before .before .loop in
@@ -38,20 +32,17 @@ loop-again c =
           (sym (c .before .same-sign .ensures) ∙ not-false _ (c .if1 .left)),
     )
 
-returns-2 : tie.Need-returns-2 Inv-loop μ-loop
-returns-2 c = running-all _ _ _ (c .before .loop .inv .2) _ (c .before .loop .inv .0) (c .loop-test .left)
-
 pub runs-out-spec : {M : Type 1} → statement M
 runs-out-spec =
     tie.close
     (tie.spec
     Inv-loop
     μ-loop
-    loop-holds
+    (λ c. (c .before .pre .0, omega arith, running-none _ _ _))
     (λ c. search needs)
     (λ c. search needs)
-    same-sign-requires
+    (λ c κs. (c .before .before .before .before .pre .1, c .before .before .before .before .pre .2))
     returns
     (λ c. search needs)
     loop-again
-    returns-2)
+    (λ c. running-all _ _ _ (c .before .loop .inv .2) _ (c .before .loop .inv .0) (c .loop-test .left)))

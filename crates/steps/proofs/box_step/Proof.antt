@@ -1,7 +1,6 @@
 -- `box_step` meets its contract: k = 1 is the last level before a new box.
-use mathlib.Core.Path.{_≡_, refl, sym, ap, _∙_, subst}
-use Prim.Native.Nat.{ℕ, suc, _+_, _-_, _≤_, _<_}
-use lib.ListN.{length, getD, take, drop, length-set}
+use mathlib.Core.Path.{refl, sym, _∙_}
+use Prim.Native.Nat.{_-_}
 use native.Mathlib.Omega.{arith}
 use Rattle.dimension.specs.Sizes.{axesOf}
 use Rattle.dimension.specs.Laws.{axes-range, box-small}
@@ -9,9 +8,6 @@ use Rattle.steps.specs.Steps.{box-kept, box-new, box-room, code-room}
 use borrow.Author.Needs.{needs}
 use Rattle.steps.proofs.box_step.Statement.{statement}
 use Rattle.steps.proofs.box_step.Tie as tie
-
-returns : tie.Need-returns
-returns c = box-kept _ _ (omega (arith, (axes-range (c .before .before .args .dim)) .two)) _ (λ q. c .if1 .taken (c .before .before .pre .2 ∙ q))
 
 orthant-of-requires : tie.Need-orthant-of-requires
 orthant-of-requires c κs =
@@ -24,9 +20,6 @@ orthant-of-requires c κs =
           (arith, code-room (axesOf (args .dim)) (args .depth) (args .buf .now) (pre .0)),
       pre .1,
     )
-
-add-at : tie.Need-add-at
-add-at c = omega (arith, c .before .before .axes .ensures, (axes-range (c .before .before .before .before .before .args .dim)) .few)
 
 add-at-2 : tie.Need-add-at-2
 add-at-2 c =
@@ -56,10 +49,10 @@ pub box-step-spec : {M : Type 1} → statement M
 box-step-spec =
     tie.close
     (tie.spec
-    returns
+    (λ c. box-kept _ _ (omega (arith, (axes-range (c .before .before .args .dim)) .two)) _ (λ q. c .if1 .taken (c .before .before .pre .2 ∙ q)))
     (λ c κs. search needs)
     orthant-of-requires
-    add-at
+    (λ c. omega (arith, c .before .before .axes .ensures, (axes-range (c .before .before .before .before .before .args .dim)) .few))
     (λ c κs. search needs)
     add-at-2
     slice-write-buf

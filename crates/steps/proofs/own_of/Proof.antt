@@ -1,16 +1,9 @@
 -- `own_of` meets its contract: the last of the orthants, or none.
-use mathlib.Core.Path.{_≡_, refl, sym, ap, _∙_, subst}
-use Prim.Native.Nat.{ℕ, suc, _+_, _-_, _*_, _^_, _≤_, _<_}
-use native.Mathlib.Omega.{arith}
-use native.Mathlib.Numerals.{add-one}
-use lib.ListN.{length, getD}
+use Prim.Native.Nat.{_-_}
 use Rattle.steps.specs.Above.{own-no-box, own-last-box}
 use borrow.Author.Needs.{needs}
 use Rattle.steps.proofs.own_of.Statement.{statement}
 use Rattle.steps.proofs.own_of.Tie as tie
-
-returns : tie.Need-returns
-returns c = own-no-box (c .before .args .axes) (c .before .args .boxes) (c .before .args .code .now) (c .if1 .taken)
 
 returns-2 : tie.Need-returns-2
 returns-2 c = own-last-box (c .before .before .args .axes) (c .before .before .args .boxes) (c .before .before .args .code .now) (c .before .before .pre) (c .before .if1 .left)
@@ -19,7 +12,7 @@ pub own-of-spec : {M : Type 1} → statement M
 own-of-spec =
     tie.close
     (tie.spec
-    returns
+    (λ c. own-no-box (c .before .args .axes) (c .before .args .boxes) (c .before .args .code .now) (c .if1 .taken))
     (λ c. search needs)
     (λ c. search needs)
     (λ c. search needs)

@@ -1,7 +1,6 @@
 -- `step_in` meets its contract: the turn, then the new box.
-use mathlib.Core.Path.{_≡_, refl, sym, ap, _∙_, subst}
-use Prim.Native.Nat.{ℕ, suc, _+_, _-_, _≤_, _<_}
-use lib.ListN.{length, getD, take, drop, length-set}
+use mathlib.Core.Path.{refl}
+use Prim.Native.Nat.{_-_}
 use native.Mathlib.Omega.{arith}
 use Rattle.dimension.specs.Sizes.{axesOf}
 use Rattle.dimension.specs.Laws.{axes-range, split-range}

@@ -1,20 +1,11 @@
 -- `turn_step` meets its contract: step 0 changes nothing, step 1 turns the first k entries.
-use mathlib.Core.Path.{_≡_, refl, sym, ap, _∙_, subst}
-use Prim.Native.Nat.{ℕ, suc, _+_, _-_, _≤_, _<_}
+use mathlib.Core.Path.{_∙_}
+use Prim.Native.Nat.{_-_}
 use native.Mathlib.Omega.{arith}
 use Rattle.steps.specs.Steps.{step-kept, step-turned}
 use borrow.Author.Needs.{needs}
 use Rattle.steps.proofs.turn_step.Statement.{statement}
 use Rattle.steps.proofs.turn_step.Tie as tie
-
-returns : tie.Need-returns
-returns c = step-kept _ _ _ (c .if1 .taken)
-
-sub-turn : tie.Need-sub-turn
-sub-turn c = omega (arith, c .before .before .before .pre .0)
-
-turn-requires : tie.Need-turn-requires
-turn-requires c κs = (omega (arith, c .before .before .before .pre .0, c .before .before .before .pre .1), c .before .before .before .pre .2)
 
 returns-2 : tie.Need-returns-2
 returns-2 c =
@@ -26,8 +17,8 @@ returns-2 c =
 pub turn-step-spec : {M : Type 1} → statement M
 turn-step-spec = tie.close
     (tie.spec
-    returns
-    sub-turn
-    turn-requires
+    (λ c. step-kept _ _ _ (c .if1 .taken))
+    (λ c. omega (arith, c .before .before .before .pre .0))
+    (λ c κs. (omega (arith, c .before .before .before .pre .0, c .before .before .before .pre .1), c .before .before .before .pre .2))
     (λ c. search needs)
     returns-2)

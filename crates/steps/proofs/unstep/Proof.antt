@@ -1,21 +1,10 @@
 -- `unstep` meets its contract: the sign of entry n tells the step, and child 1 is turned back.
-use mathlib.Core.Path.{_≡_, refl, sym, ap, _∙_, subst}
-use Prim.Native.Nat.{ℕ, suc, _+_, _-_, _≤_, _<_}
-use lib.ListN.{length, getD, take, drop}
-use native.Mathlib.Omega.{arith}
+use mathlib.Core.Path.{sym, _∙_}
+use Prim.Native.Nat.{_-_}
 use Rattle.steps.specs.Steps.{back-zero, back-one}
 use borrow.Author.Needs.{needs}
 use Rattle.steps.proofs.unstep.Statement.{statement}
 use Rattle.steps.proofs.unstep.Tie as tie
-
-same-sign-requires : tie.Need-same-sign-requires
-same-sign-requires c κs = (c .before .before .pre .1, c .before .before .pre .2)
-
-returns : tie.Need-returns
-returns c = back-zero _ _ _ _ (sym (c .before .same-sign .ensures) ∙ c .if1 .taken)
-
-unturn-requires : tie.Need-unturn-requires
-unturn-requires c κs = (c .before .before .before .before .before .pre .0, c .before .before .before .before .before .pre .1)
 
 returns-2 : tie.Need-returns-2
 returns-2 c = back-one _ _ _ _ (sym (c .before .before .before .before .before .same-sign .ensures) ∙ c .before .before .before .before .if1 .left) _ (c .before .before .unturn .ensures)
@@ -26,8 +15,8 @@ unstep-spec =
     (tie.spec
     (λ c. search needs)
     (λ c. search needs)
-    same-sign-requires
-    returns
-    unturn-requires
+    (λ c κs. (c .before .before .pre .1, c .before .before .pre .2))
+    (λ c. back-zero _ _ _ _ (sym (c .before .same-sign .ensures) ∙ c .if1 .taken))
+    (λ c κs. (c .before .before .before .before .before .pre .0, c .before .before .before .before .before .pre .1))
     (λ c. search needs)
     returns-2)

@@ -1,7 +1,7 @@
 -- `write_child` meets its contract: the step rule on a copy of the code.
-use mathlib.Core.Path.{_≡_, refl, sym, ap, _∙_, subst}
-use Prim.Native.Nat.{ℕ, suc, _+_, _-_, _≤_, _<_}
-use lib.ListN.{length, getD, take, drop, length-set}
+use mathlib.Core.Path.{ap, _∙_}
+use Prim.Native.Nat.{_-_}
+use lib.ListN.{length, length-set}
 use native.Mathlib.Omega.{arith}
 use Rattle.steps.specs.Relatives.{child-fits, child-four, child-few, child-two, child-depth, child-byte, child-copied, child-ready, child-written}
 use borrow.Author.Needs.{needs}
@@ -10,12 +10,6 @@ use Rattle.steps.proofs.write_child.Tie as tie
 
 copy-front-requires : tie.Need-copy-front-requires
 copy-front-requires c κs = (child-four (c .before .before .before .pre), child-few (c .before .before .before .pre), omega arith, child-fits (c .before .before .before .pre))
-
-shared-slice-read-out : tie.Need-shared-slice-read-out
-shared-slice-read-out c = omega (arith, child-two (c .before .before .before .before .before .before .before .pre))
-
-add-out : tie.Need-add-out
-add-out c = record { fits = child-byte (c .before .before .before .before .before .before .before .pre) }
 
 slice-write-out : tie.Need-slice-write-out
 slice-write-out c =
@@ -47,8 +41,8 @@ write-child-spec =
     tie.close
     (tie.spec
     copy-front-requires
-    shared-slice-read-out
-    add-out
+    (λ c. omega (arith, child-two (c .before .before .before .before .before .before .before .pre)))
+    (λ c. record { fits = child-byte (c .before .before .before .before .before .before .before .pre) })
     slice-write-out
     (λ c κs. search needs)
     step-in-requires

@@ -1,8 +1,7 @@
 -- `write_parent` meets its contract: the last step is taken back on a copy of the front of the code.
-use mathlib.Core.Path.{_≡_, refl, sym, ap, _∙_, subst}
-use mathlib.Core.List.{List, _++_}
-use Prim.Native.Nat.{ℕ, suc, _+_, _-_, _*_, _≤_, _<_}
-use lib.ListN.{length, getD, take, drop, length-set}
+use mathlib.Core.Path.{_≡_, refl, ap, _∙_}
+use Prim.Native.Nat.{ℕ, _+_, _-_}
+use lib.ListN.{length, length-set}
 use native.Mathlib.Omega.{arith}
 use Rattle.dimension.specs.Sizes.{codeLength, boxDepth}
 use Rattle.dimension.specs.Laws.{axes-range, split-fits, split-sub, split-rest, split-is}
@@ -15,15 +14,6 @@ use Rattle.steps.proofs.write_parent.Tie as tie
 counted : (d D x q : ℕ) → x ≡ d → q ≡ boxDepth d D → 2 + x + q ≡ codeLength d D
 unfolding codeLength
 counted d D x q e f = rw (e, f) refl
-
-own-of-requires : tie.Need-own-of-requires
-own-of-requires c κs = rw (counted _ _ _ _ (c .before .axes .ensures) (c .box-depth .ensures)) (parent-front (c .before .before .before .before .pre))
-
-mul-k : tie.Need-mul-k
-mul-k c = record { fits = split-fits _ _ _ _ (c .before .before .axes .ensures) (c .before .box-depth .ensures) (omega arith) }
-
-sub-k : tie.Need-sub-k
-sub-k c = split-sub _ _ _ _ (c .before .before .axes .ensures) (c .before .box-depth .ensures)
 
 sub-k-2 : tie.Need-sub-k-2
 sub-k-2 c = split-rest _ _ _ _ (omega (arith, axes-range (c .before .before .before .before .before .args .dim) .two)) (c .before .before .axes .ensures) (c .before .box-depth .ensures)
@@ -39,9 +29,6 @@ copy-front-requires c κs =
     let pre = c .before .before .before .before .before .before .pre in
     let axes = c .before .before .before .axes in
     rw (counted _ _ _ _ (axes .ensures) (c .before .before .box-depth .ensures)) (parent-four (pre), parent-few (pre), parent-front (pre), pre .room)
-
-shared-slice-read-out : tie.Need-shared-slice-read-out
-shared-slice-read-out c = omega (arith, parent-two (c .before .before .before .before .before .before .before .before .before .before .pre))
 
 sub-out : tie.Need-sub-out
 unfolding depthOf
@@ -72,9 +59,6 @@ unstep-requires c κs =
     rw (copy-front .ensures) (parent-ready (pre) _ _ _ (counted _ _ _ _ (axes .ensures) (box-depth .ensures))
     (ap (λ (k : ℕ). k - 1) (split-is _ _ _ _ (axes .ensures) (box-depth .ensures))))
 
-same-length : tie.Need-same-length
-same-length c = c .before .out2 .given ∙ simp length-set (c .before .before .before .before .before .before .out .given)
-
 returns : tie.Need-returns
 returns c =
     let pre = c .before .before .before .before .before .before .before .before .before .before .before .before .before .before .pre in
@@ -92,17 +76,17 @@ write-parent-spec =
     (tie.spec
     (λ c κs. search needs)
     (λ c κs. search needs)
-    own-of-requires
-    mul-k
-    sub-k
+    (λ c κs. rw (counted _ _ _ _ (c .before .axes .ensures) (c .box-depth .ensures)) (parent-front (c .before .before .before .before .pre)))
+    (λ c. record { fits = split-fits _ _ _ _ (c .before .before .axes .ensures) (c .before .box-depth .ensures) (omega arith) })
+    (λ c. split-sub _ _ _ _ (c .before .before .axes .ensures) (c .before .box-depth .ensures))
     sub-k-2
     add-copy-front
     add-copy-front-2
     copy-front-requires
-    shared-slice-read-out
+    (λ c. omega (arith, parent-two (c .before .before .before .before .before .before .before .before .before .before .pre)))
     sub-out
     slice-write-out
     sub-unstep
     unstep-requires
-    same-length
+    (λ c. c .before .out2 .given ∙ simp length-set (c .before .before .before .before .before .before .out .given))
     returns)

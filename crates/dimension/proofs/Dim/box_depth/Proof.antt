@@ -1,6 +1,6 @@
 -- `Dim::box_depth` meets its contract: a quotient by twelve of a small depth, by the axes of any other.
-use mathlib.Core.Path.{_≡_, refl, sym, ap, _∙_}
-use Prim.Native.Nat.{ℕ, _*_, _-_, _≤_}
+use mathlib.Core.Path.{refl}
+use Prim.Native.Nat.{_-_}
 use native.Mathlib.Omega.{arith}
 use Rattle.dimension.specs.Sizes.{boxDepth}
 use Rattle.dimension.specs.Laws.{axes-range, box-depth-by, twelfths-few, fits-product}
@@ -13,12 +13,6 @@ mul-result c =
     let args = c .before .before .args in
     record { fits = fits-product (args .depth) (c .twelfths .result) (c .before .if1 .taken) (twelfths-few _ _ (axes-range (args .self)) (c .twelfths .ensures)) }
 
-returns : tie.Need-returns
-returns c = box-depth-by _ _ _ (omega (arith, (axes-range (c .before .before .args .self)) .two)) (c .twelfths .ensures)
-
-div-result : tie.Need-div-result
-div-result c = omega (arith, c .axes .ensures, (axes-range (c .before .before .args .self)) .two)
-
 returns-2 : tie.Need-returns-2
 unfolding boxDepth
 returns-2 c = rw (c .axes .ensures) refl
@@ -29,7 +23,7 @@ box-depth-spec =
     (tie.spec
     (λ c κs. search needs)
     mul-result
-    returns
+    (λ c. box-depth-by _ _ _ (omega (arith, (axes-range (c .before .before .args .self)) .two)) (c .twelfths .ensures))
     (λ c κs. search needs)
-    div-result
+    (λ c. omega (arith, c .axes .ensures, (axes-range (c .before .before .args .self)) .two))
     returns-2)

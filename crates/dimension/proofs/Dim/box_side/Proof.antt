@@ -6,12 +6,6 @@ use borrow.Author.Needs.{needs}
 use Rattle.dimension.proofs.Dim.box_side.Statement.{statement}
 use Rattle.dimension.proofs.Dim.box_side.Tie as tie
 
-cast-result : tie.Need-cast-result
-cast-result c = omega (arith, boxes-few (axesOf (c .before .args .self)) (c .before .args .depth) (axes-range (c .before .args .self)) (c .before .pre))
-
-shr-result : tie.Need-shr-result
-shr-result c = omega (arith, boxes-few (axesOf (c .before .args .self)) (c .before .args .depth) (axes-range (c .before .args .self)) (c .before .pre))
-
 returns : tie.Need-returns
 unfolding boxSide sideAfter cubeSide halvings
 returns c = simp (c .box-depth .ensures)
@@ -20,6 +14,6 @@ pub box-side-spec : {M : Type 1} → statement M
 box-side-spec = tie.close
     (tie.spec
     (λ c κs. search needs)
-    cast-result
-    shr-result
+    (λ c. omega (arith, boxes-few (axesOf (c .before .args .self)) (c .before .args .depth) (axes-range (c .before .args .self)) (c .before .pre)))
+    (λ c. omega (arith, boxes-few (axesOf (c .before .args .self)) (c .before .args .depth) (axes-range (c .before .args .self)) (c .before .pre)))
     returns)

@@ -5,12 +5,9 @@ use borrow.Author.Needs.{needs}
 use Rattle.dimension.proofs.Dim.checked.Statement.{statement}
 use Rattle.dimension.proofs.Dim.checked.Tie as tie
 
-returns-3 : tie.Need-returns-3
-returns-3 c = let g = c .match .rest in sym (four (dimension (c .before .args .byte) (c .before .pre)) (g .0 .1) (g .1))
-
 pub checked-spec : {M : Type 1} → statement M
 checked-spec = tie.close
     (tie.spec
     (λ c. search needs)
     (λ c. search needs)
-    returns-3)
+    (λ c. let g = c .match .rest in sym (four (dimension (c .before .args .byte) (c .before .pre)) (g .0 .1) (g .1))))

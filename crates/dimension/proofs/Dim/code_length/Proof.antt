@@ -6,9 +6,6 @@ use borrow.Author.Needs.{needs}
 use Rattle.dimension.proofs.Dim.code_length.Statement.{statement}
 use Rattle.dimension.proofs.Dim.code_length.Tie as tie
 
-add-result : tie.Need-add-result
-add-result c = omega (arith, axes-range (c .before .args .self) .few)
-
 add-result-2 : tie.Need-add-result-2
 add-result-2 c =
     let args = c .before .before .args in
@@ -23,7 +20,7 @@ code-length-spec =
     tie.close
     (tie.spec
     (λ c κs. search needs)
-    add-result
+    (λ c. omega (arith, axes-range (c .before .args .self) .few))
     (λ c κs. search needs)
     add-result-2
     returns)

@@ -6,9 +6,6 @@ use borrow.Author.Needs.{needs}
 use Rattle.dimension.proofs.Dim.greatest_depth.Statement.{statement}
 use Rattle.dimension.proofs.Dim.greatest_depth.Tie as tie
 
-mul-result : tie.Need-mul-result
-mul-result c = omega (arith, axes-range (c .before .args .self) .few)
-
 returns : tie.Need-returns
 unfolding greatestDepth halvings
 returns c = simp (c .axes .ensures)
@@ -17,5 +14,5 @@ pub greatest-depth-spec : {M : Type 1} → statement M
 greatest-depth-spec = tie.close
     (tie.spec
     (λ c κs. search needs)
-    mul-result
+    (λ c. omega (arith, axes-range (c .before .args .self) .few))
     returns)

@@ -4,13 +4,10 @@ use borrow.Author.Needs.{needs}
 use Rattle.dimension.proofs.Dim.of.Statement.{statement}
 use Rattle.dimension.proofs.Dim.of.Tie as tie
 
-returns-4 : tie.Need-returns-4
-returns-4 c = let g = c .match .rest in no-dimension (c .before .args .axes) (g .0 .0 .1) (g .0 .1) (g .1)
-
 pub of-spec : {M : Type 1} → statement M
 of-spec = tie.close
     (tie.spec
     (λ c. search needs)
     (λ c. search needs)
     (λ c. search needs)
-    returns-4)
+    (λ c. let g = c .match .rest in no-dimension (c .before .args .axes) (g .0 .0 .1) (g .0 .1) (g .1)))

@@ -4,21 +4,12 @@ use borrow.Author.Needs.{needs}
 use Rattle.dimension.proofs.Dim.roots.Statement.{statement}
 use Rattle.dimension.proofs.Dim.roots.Tie as tie
 
-returns : tie.Need-returns
-returns c = root-count (c .before .before .args .self) _ (search needs)
-
-returns-2 : tie.Need-returns-2
-returns-2 c = root-count (c .before .before .args .self) _ (search needs)
-
-returns-3 : tie.Need-returns-3
-returns-3 c = root-count (c .before .before .args .self) _ (search needs)
-
 pub roots-spec : {M : Type 1} → statement M
 roots-spec = tie.close
     (tie.spec
     (λ c. search needs)
     (λ c. search needs)
     (λ c. search needs)
-    returns
-    returns-2
-    returns-3)
+    (λ c. root-count (c .before .before .args .self) _ (search needs))
+    (λ c. root-count (c .before .before .args .self) _ (search needs))
+    (λ c. root-count (c .before .before .args .self) _ (search needs)))

@@ -6,9 +6,6 @@ use borrow.Author.Needs.{needs}
 use Rattle.entries.proofs.check.depth_of.Statement.{statement}
 use Rattle.entries.proofs.check.depth_of.Tie as tie
 
-shared-slice-read-size : tie.Need-shared-slice-read-size
-shared-slice-read-size c = omega (arith, checked-two (c .before .before .args .code .now) (c .before .before .pre))
-
 returns : tie.Need-returns
 unfolding depthOf
 returns c = c .size .ensures
@@ -16,6 +13,6 @@ returns c = c .size .ensures
 pub depth-of-spec : {M : Type 1} → statement M
 depth-of-spec = tie.close
     (tie.spec
-    shared-slice-read-size
+    (λ c. omega (arith, checked-two (c .before .before .args .code .now) (c .before .before .pre)))
     (λ c κs. search needs)
     returns)

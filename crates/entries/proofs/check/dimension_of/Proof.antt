@@ -5,9 +5,6 @@ use Rattle.entries.specs.Passed.{checked, checked-two}
 use Rattle.entries.proofs.check.dimension_of.Statement.{statement}
 use Rattle.entries.proofs.check.dimension_of.Tie as tie
 
-shared-slice-read-checked : tie.Need-shared-slice-read-checked
-shared-slice-read-checked c = omega (arith, checked-two (c .before .before .args .code .now) (c .before .before .pre))
-
 checked-requires : tie.Need-checked-requires
 unfolding dimensionOf
 checked-requires c κs = checked (c .before .before .args .code .now) (c .before .before .pre) .good .dimension
@@ -17,4 +14,8 @@ unfolding dimensionOf
 returns c = c .checked .ensures
 
 pub dimension-of-spec : {M : Type 1} → statement M
-dimension-of-spec = tie.close (tie.spec shared-slice-read-checked checked-requires returns)
+dimension-of-spec = tie.close
+    (tie.spec
+    (λ c. omega (arith, checked-two (c .before .before .args .code .now) (c .before .before .pre)))
+    checked-requires
+    returns)

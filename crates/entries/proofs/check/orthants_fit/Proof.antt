@@ -1,10 +1,10 @@
 -- `orthants_fit` meets its contract. The loop keeps: what is or-ed so far fits just where the bytes before i do.
-use mathlib.Core.Path.{_≡_, sym, ap, _∙_}
-use Prim.Native.Nat.{ℕ, _+_, _-_, _≤_, _<_}
+use mathlib.Core.Path.{sym, ap, _∙_}
+use Prim.Native.Nat.{ℕ, _+_, _-_}
 use lib.ListN.{length, getD, drop, length-drop}
 use native.Mathlib.Omega.{arith}
 use Rattle.dimension.specs.Sizes.{halvings}
-use Rattle.entries.specs.Walks.{placeIn, place-within, Fitting, fitting-none, fitting-next, fitting-all, fitting-empty, at-place}
+use Rattle.entries.specs.Walks.{place-within, Fitting, fitting-none, fitting-next, fitting-all, fitting-empty, at-place}
 use borrow.Author.Needs.{needs}
 use Rattle.entries.proofs.check.orthants_fit.Statement.{statement}
 use Rattle.entries.proofs.check.orthants_fit.Tie as tie
@@ -15,19 +15,10 @@ Inv-loop code d first boxes any₀ i₀ any i = Fitting d boxes (drop (2 + d) co
 abbrev μ-loop : tie.MeasureT-loop
 μ-loop code d first boxes any₀ i₀ any i = halvings - i
 
-add-first : tie.Need-add-first Inv-loop μ-loop
-add-first c = omega (arith, c .before .pre .0)
-
-sub-boxes : tie.Need-sub-boxes Inv-loop μ-loop
-sub-boxes c = c .before .pre .1
-
 returns : tie.Need-returns Inv-loop μ-loop
 returns c =
     let args = c .before .before .args in
     fitting-empty (args .d) (drop (2 + args .d) (args .code .now)) (length-drop (2 + args .d) (args .code .now) ∙ c .if1 .taken)
-
-loop-holds : tie.Need-loop-holds Inv-loop μ-loop
-loop-holds c = fitting-none _ _ _
 
 add-any : tie.Need-add-any Inv-loop μ-loop
 add-any c =
@@ -55,12 +46,6 @@ loop-again c =
     fitting-next (c .before .before .before .loop .inv) (omega (arith, c .before .before .before .before .if1 .left)) _
     (at-place code (2 + d) (c .before .place-in .result) ∙ ap (λ (x : ℕ). getD (drop (2 + d) code) x 0) (c .before .place-in .ensures))
 
-cast-result : tie.Need-cast-result Inv-loop μ-loop
-cast-result c = omega (arith, c .before .before .before .before .pre .0)
-
-shr-result : tie.Need-shr-result Inv-loop μ-loop
-shr-result c = c .before .before .before .before .pre .0
-
 returns-2 : tie.Need-returns-2 Inv-loop μ-loop
 unfolding halvings
 returns-2 c =
@@ -74,16 +59,16 @@ orthants-fit-spec =
     (tie.spec
     Inv-loop
     μ-loop
-    add-first
-    sub-boxes
+    (λ c. omega (arith, c .before .pre .0))
+    (λ c. c .before .pre .1)
     returns
-    loop-holds
+    (λ c. fitting-none _ _ _)
     (λ c κs. search needs)
     add-any
     shared-slice-read-any
     (λ c. search needs)
     loop-less
     loop-again
-    cast-result
-    shr-result
+    (λ c. omega (arith, c .before .before .before .before .pre .0))
+    (λ c. c .before .before .before .before .pre .0)
     returns-2)

@@ -4,17 +4,11 @@ use borrow.Author.Needs.{needs}
 use Rattle.entries.proofs.check.own_byte.Statement.{statement}
 use Rattle.entries.proofs.check.own_byte.Tie as tie
 
-returns : tie.Need-returns
-returns c = own-none _ _ (c .if1 .taken)
-
-returns-2 : tie.Need-returns-2
-returns-2 c = own-last _ _ (c .before .before .pre .1) (c .before .if1 .left)
-
 pub own-byte-spec : {M : Type 1} → statement M
 own-byte-spec = tie.close
     (tie.spec
     (λ c. search needs)
-    returns
+    (λ c. own-none _ _ (c .if1 .taken))
     (λ c. search needs)
     (λ c. search needs)
-    returns-2)
+    (λ c. own-last _ _ (c .before .before .pre .1) (c .before .if1 .left)))

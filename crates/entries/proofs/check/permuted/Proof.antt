@@ -1,12 +1,11 @@
 -- `permuted` meets its contract. The loop keeps: the entries before i are marked, and what is marked stands among the d.
-use mathlib.Core.Path.{_≡_, sym, ap, _∙_}
-use Prim.Native.Nat.{ℕ, _+_, _-_, _≤_, _<_}
-use lib.ListN.{length, getD, take, drop}
+use mathlib.Core.Path.{ap, _∙_}
+use Prim.Native.Nat.{ℕ, _-_, _<_}
+use lib.ListN.{getD, take, drop}
 use native.Mathlib.Omega.{arith}
-use lib.Bits.{bitOr}
 use lib.Pow.{pow-pos}
-use Rattle.entries.specs.Masks.{markOf, shifted-bit}
-use Rattle.entries.specs.Walks.{placeIn, place-within, entry-at}
+use Rattle.entries.specs.Masks.{shifted-bit}
+use Rattle.entries.specs.Walks.{place-within, entry-at}
 use Rattle.entries.specs.Marks.{Marked, marked-none, marked-next, permuted-at}
 use borrow.Author.Needs.{needs}
 use Rattle.entries.proofs.check.permuted.Statement.{statement}
@@ -17,9 +16,6 @@ Inv-loop s at d seen₀ i₀ seen i = Marked d (take d (drop at s)) i seen
 
 abbrev μ-loop : tie.MeasureT-loop
 μ-loop s at d seen₀ i₀ seen i = 4 - i
-
-loop-holds : tie.Need-loop-holds Inv-loop μ-loop
-loop-holds c = marked-none _ _
 
 add-mark-of : tie.Need-add-mark-of Inv-loop μ-loop
 add-mark-of c =
@@ -34,9 +30,6 @@ shared-slice-read-mark-of c =
     let loop = c .before .before .before .loop in
     omega (arith, c .before .place-in .ensures, place-within (loop .i) (args .d) (pre .0), pre .2)
 
-loop-less : tie.Need-loop-less Inv-loop μ-loop
-loop-less c = omega (arith, c .before .before .before .loop-test .taken)
-
 loop-again : tie.Need-loop-again Inv-loop μ-loop
 loop-again c =
     let s = c .before .before .before .before .before .before .args .s .now in
@@ -46,12 +39,6 @@ loop-again c =
     let l : j < d = omega (arith, c .before .before .place-in .ensures, place-within (c .before .before .before .before .loop .i) d (c .before .before .before .before .before .before .pre .0)) in
     rw (c .mark-of .ensures) (marked-next (c .before .before .before .before .loop .inv) (c .before .before .before .before .before .before .pre .0) _
     (entry-at s at d j l ∙ ap (λ (x : ℕ). getD (take d (drop at s)) x 0) (c .before .before .place-in .ensures)))
-
-cast-result : tie.Need-cast-result Inv-loop μ-loop
-cast-result c = omega (arith, c .before .before .before .pre .1)
-
-shl-result : tie.Need-shl-result Inv-loop μ-loop
-shl-result c = omega (arith, c .before .before .before .pre .1)
 
 sub-result : tie.Need-sub-result Inv-loop μ-loop
 sub-result c = rw (shifted-bit (c .before .before .before .args .d) (omega (arith, c .before .before .before .pre .1))) (pow-pos (c .before .before .before .args .d))
@@ -69,15 +56,15 @@ permuted-spec =
     (tie.spec
     Inv-loop
     μ-loop
-    loop-holds
+    (λ c. marked-none _ _)
     (λ c κs. search needs)
     add-mark-of
     shared-slice-read-mark-of
     (λ c κs. search needs)
     (λ c. search needs)
-    loop-less
+    (λ c. omega (arith, c .before .before .before .loop-test .taken))
     loop-again
-    cast-result
-    shl-result
+    (λ c. omega (arith, c .before .before .before .pre .1))
+    (λ c. omega (arith, c .before .before .before .pre .1))
     sub-result
     returns)

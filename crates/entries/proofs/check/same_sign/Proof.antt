@@ -7,9 +7,6 @@ use borrow.Author.Needs.{needs}
 use Rattle.entries.proofs.check.same_sign.Statement.{statement}
 use Rattle.entries.proofs.check.same_sign.Tie as tie
 
-is-high-requires : tie.Need-is-high-requires
-is-high-requires c κs = (rw (c .axis-of .ensures) (c .before .pre .0), rw (c .axis-of .ensures) (c .before .pre .1))
-
 returns : tie.Need-returns
 returns c =
     let args = c .before .before .before .before .args in
@@ -27,7 +24,7 @@ same-sign-spec =
     tie.close
     (tie.spec
     (λ c κs. search needs)
-    is-high-requires
+    (λ c κs. (rw (c .axis-of .ensures) (c .before .pre .0), rw (c .axis-of .ensures) (c .before .pre .1)))
     (λ c κs. search needs)
     returns
     returns-2)

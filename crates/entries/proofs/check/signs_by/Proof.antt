@@ -1,10 +1,10 @@
 -- `signs_by` meets its contract. The loop keeps: of the places before i, those under k have an entry of the own sign.
-use mathlib.Core.Path.{_≡_, refl, sym, ap, _∙_}
-use Prim.Native.Nat.{ℕ, _+_, _-_, _≤_, _<_}
-use lib.ListN.{length, getD, drop}
+use mathlib.Core.Path.{sym, ap, _∙_}
+use Prim.Native.Nat.{_-_, _<_}
+use lib.ListN.{drop}
 use native.Mathlib.Omega.{arith}
 use borrow.Author.Tests.{not-true, not-false}
-use Rattle.entries.specs.Walks.{signTest, placeIn, place-within, SignsUpTo, up-to-none, up-to-next, up-to-all, up-to-fail, at-place}
+use Rattle.entries.specs.Walks.{signTest, place-within, SignsUpTo, up-to-none, up-to-next, up-to-all, up-to-fail, at-place}
 use borrow.Author.Needs.{needs}
 use Rattle.entries.proofs.check.signs_by.Statement.{statement}
 use Rattle.entries.proofs.check.signs_by.Tie as tie
@@ -14,9 +14,6 @@ Inv-loop code k own i₀ i = SignsUpTo (drop 2 code) own k i
 
 abbrev μ-loop : tie.MeasureT-loop
 μ-loop code k own i₀ i = 4 - i
-
-loop-holds : tie.Need-loop-holds Inv-loop μ-loop
-loop-holds c = up-to-none _ _ _
 
 add-same-sign : tie.Need-add-same-sign Inv-loop μ-loop
 add-same-sign c =
@@ -50,9 +47,6 @@ returns c =
     (ap (signTest (drop 2 code) (args .own)) (sym (place-in .ensures)) ∙ rw (← at-place code 2 (place-in .result))
     (sym (c .before .same-sign .ensures) ∙ not-true _ (c .if1 .taken)))
 
-loop-less : tie.Need-loop-less Inv-loop μ-loop
-loop-less c = omega (arith, c .before .before .before .before .loop-test .taken)
-
 loop-again : tie.Need-loop-again Inv-loop μ-loop
 loop-again c =
     let args = c .before .before .before .before .before .before .before .args in
@@ -63,22 +57,19 @@ loop-again c =
     (ap (signTest (drop 2 code) (args .own)) (sym (place-in .ensures)) ∙ rw (← at-place code 2 (place-in .result))
     (sym (c .before .same-sign .ensures) ∙ not-false _ (c .if1 .left)))
 
-returns-2 : tie.Need-returns-2 Inv-loop μ-loop
-returns-2 c = up-to-all (c .before .loop .inv) (omega (arith, c .before .before .before .pre .1, c .loop-test .left))
-
 pub signs-by-spec : {M : Type 1} → statement M
 signs-by-spec =
     tie.close
     (tie.spec
     Inv-loop
     μ-loop
-    loop-holds
+    (λ c. up-to-none _ _ _)
     (λ c κs. search needs)
     add-same-sign
     shared-slice-read-same-sign
     same-sign-requires
     returns
     (λ c. search needs)
-    loop-less
+    (λ c. omega (arith, c .before .before .before .before .loop-test .taken))
     loop-again
-    returns-2)
+    (λ c. up-to-all (c .before .loop .inv) (omega (arith, c .before .before .before .pre .1, c .loop-test .left))))

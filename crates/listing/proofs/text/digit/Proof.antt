@@ -1,8 +1,7 @@
 -- `digit` meets its contract.
-use mathlib.Core.Path.{_≡_, refl, sym, ap, _∙_, subst}
-use Prim.Native.Nat.{ℕ, suc, _+_, _-_, _*_, _/_, _%_, _^_, _≤_, _<_}
+use mathlib.Core.Path.{refl}
+use Prim.Native.Nat.{_-_}
 use native.Mathlib.Omega.{arith}
-use lib.ListN.{length, getD, take, drop, length-append, length-set}
 use borrow.Author.Tests.{lt-ltb, le-ltb}
 use Rattle.listing.specs.Texts.{digit}
 use borrow.Author.Needs.{needs}

@@ -1,8 +1,6 @@
 -- `put` meets its contract.
-use mathlib.Core.Path.{_≡_, refl, sym, ap, _∙_, subst}
-use Prim.Native.Nat.{ℕ, suc, _+_, _-_, _*_, _/_, _%_, _^_, _≤_, _<_}
-use native.Mathlib.Omega.{arith}
-use lib.ListN.{length, getD, take, drop, length-append, length-set}
+use mathlib.Core.Path.{refl, _∙_}
+use Prim.Native.Nat.{_-_}
 use Rattle.listing.specs.Putting.{put-copy}
 use borrow.Author.Needs.{needs}
 use Rattle.listing.proofs.text.put.Statement.{statement}

@@ -1,9 +1,7 @@
 -- `put_decimal` meets its contract: the digits that `io::decimal` makes are the number's.
-use mathlib.Core.Path.{_≡_, refl, sym, ap, _∙_, subst}
-use Prim.Native.Nat.{ℕ, suc, _+_, _-_, _*_, _/_, _%_, _^_, _≤_, _<_}
-use native.Mathlib.Omega.{arith}
+use mathlib.Core.Path.{_∙_, subst}
+use Prim.Native.Nat.{ℕ, _-_}
 use mathlib.Core.List.{List}
-use lib.ListN.{length, getD, take, drop, length-append, length-set}
 use Rattle.listing.specs.Digits.{decimal-is}
 use Rattle.listing.specs.Putting.{Puts}
 use borrow.Author.Needs.{needs}

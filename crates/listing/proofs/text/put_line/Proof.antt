@@ -1,9 +1,5 @@
 -- `put_line` meets its contract: three texts, one behind the other.
-use mathlib.Core.Path.{_≡_, refl, sym, ap, _∙_, subst}
-use Prim.Native.Nat.{ℕ, suc, _+_, _-_, _*_, _/_, _%_, _^_, _≤_, _<_}
-use native.Mathlib.Omega.{arith}
-use lib.ListN.{length, getD, take, drop, length-append, length-set}
-use Rattle.listing.specs.Texts.{decimal, newline, numberLine}
+use Prim.Native.Nat.{_-_}
 use Rattle.listing.specs.Lines.{number-fits}
 use borrow.Author.Needs.{needs}
 use Rattle.listing.proofs.text.put_line.Statement.{statement}

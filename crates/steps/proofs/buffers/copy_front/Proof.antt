@@ -1,11 +1,10 @@
 -- `copy_front` meets its contract. The loop keeps: the places before i are copied, or all up to the last four.
-use mathlib.Core.Path.{_≡_, refl, sym, ap, _∙_}
-use Prim.Native.Nat.{ℕ, suc, _+_, _-_, _≤_, _<_}
-use lib.ListN.{length, getD, take, drop, length-set}
+use mathlib.Core.Path.{_∙_}
+use Prim.Native.Nat.{_+_, _-_, _≤_}
 use native.Mathlib.Omega.{arith}
 use Rattle.dimension.specs.Sizes.{mostAxes, halvings, longestOfAll}
 use Rattle.dimension.specs.Laws.{longest-is}
-use Rattle.entries.specs.Walks.{placeIn, place-no-later}
+use Rattle.entries.specs.Walks.{place-no-later}
 use Rattle.steps.specs.Copying.{Fronted, fronted-none, fronted-next, fronted-last}
 use borrow.Author.Needs.{needs}
 use Rattle.steps.proofs.buffers.copy_front.Statement.{statement}
@@ -17,12 +16,6 @@ Inv-loop code n out₀ last i₀ out i = Fronted code out₀ last i out
 abbrev μ-loop : tie.MeasureT-loop
 μ-loop code n out₀ last i₀ out i = longestOfAll - i
 
-sub-last : tie.Need-sub-last Inv-loop μ-loop
-sub-last c = c .before .before .pre .0
-
-loop-holds : tie.Need-loop-holds Inv-loop μ-loop
-loop-holds c = fronted-none _ _ _
-
 copy-four-requires : tie.Need-copy-four-requires Inv-loop μ-loop
 copy-four-requires c κs =
     let args = c .before .before .before .before .before .before .args in
@@ -30,9 +23,6 @@ copy-four-requires c κs =
     let loop = c .before .before .before .loop in
     let p : c .before .place-in .result + 4 ≤ args .n = omega (arith, c .before .place-in .ensures, place-no-later (loop .i) (args .n - 4), pre .0) in
     (omega (arith, p, pre .2), omega (arith, p, pre .3, loop .inv .so-far .size))
-
-add-i : tie.Need-add-i Inv-loop μ-loop
-add-i c = omega (arith, c .before .before .before .before .before .loop-test .taken)
 
 loop-less : tie.Need-loop-less Inv-loop μ-loop
 unfolding mostAxes halvings
@@ -48,9 +38,6 @@ copy-four-requires-2 : tie.Need-copy-four-requires-2 Inv-loop μ-loop
 copy-four-requires-2 c κs =
     let pre = c .before .before .before .before .before .pre in
     (omega (arith, pre .0, pre .2), omega (arith, pre .0, pre .3, c .before .before .loop .inv .so-far .size))
-
-same-length : tie.Need-same-length Inv-loop μ-loop
-same-length c = c .before .before .copy-four2 .ensures .size ∙ c .before .before .before .before .before .loop .inv .so-far .size
 
 returns : tie.Need-returns Inv-loop μ-loop
 unfolding mostAxes halvings
@@ -68,13 +55,13 @@ copy-front-spec =
     (tie.spec
     Inv-loop
     μ-loop
-    sub-last
-    loop-holds
+    (λ c. c .before .before .pre .0)
+    (λ c. fronted-none _ _ _)
     (λ c κs. search needs)
     copy-four-requires
-    add-i
+    (λ c. omega (arith, c .before .before .before .before .before .loop-test .taken))
     loop-less
     loop-again
     copy-four-requires-2
-    same-length
+    (λ c. c .before .before .copy-four2 .ensures .size ∙ c .before .before .before .before .before .loop .inv .so-far .size)
     returns)

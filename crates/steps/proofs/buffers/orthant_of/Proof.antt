@@ -1,7 +1,7 @@
 -- `orthant_of` meets its contract. The loop keeps: the mask is high on the axes of those entries before i that have a minus.
-use mathlib.Core.Path.{_≡_, refl, sym, ap, _∙_}
-use Prim.Native.Nat.{ℕ, suc, _+_, _-_, _≤_, _<_}
-use lib.ListN.{length, getD, take, drop}
+use mathlib.Core.Path.{_≡_, sym, ap, _∙_}
+use Prim.Native.Nat.{_-_, _<_}
+use lib.ListN.{take, drop}
 use native.Mathlib.Omega.{arith}
 use mathlib.Core.Logic.{⊎-elim}
 use Rattle.bisection.specs.Codes.{axis, minus}
@@ -17,9 +17,6 @@ Inv-loop buf at d mask₀ i₀ mask i = Marking d (take d (drop at buf)) i mask
 
 abbrev μ-loop : tie.MeasureT-loop
 μ-loop buf at d mask₀ i₀ mask i = 4 - i
-
-loop-holds : tie.Need-loop-holds Inv-loop μ-loop
-loop-holds c = marking-none _ _
 
 add-e : tie.Need-add-e Inv-loop μ-loop
 add-e c =
@@ -43,9 +40,6 @@ raise-requires c κs =
     let j = place-in .result in
     let l : j < args .d = omega (arith, place-in .ensures, place-within (loop .i) (args .d) (pre .0)) in
     rw (c .axis-of .ensures, entry-at (args .buf .now) (args .at) (args .d) j l) (pre .3 .low j l, omega (arith, pre .3 .high j l, pre .1))
-
-loop-less : tie.Need-loop-less Inv-loop μ-loop
-loop-less c = omega (arith, c .before .before .before .before .loop-test .taken)
 
 loop-again : tie.Need-loop-again Inv-loop μ-loop
 loop-again c =
@@ -72,7 +66,7 @@ orthant-of-spec =
     (tie.spec
     Inv-loop
     μ-loop
-    loop-holds
+    (λ c. marking-none _ _)
     (λ c κs. search needs)
     add-e
     shared-slice-read-e
@@ -80,6 +74,6 @@ orthant-of-spec =
     (λ c κs. search needs)
     raise-requires
     (λ c. search needs)
-    loop-less
+    (λ c. omega (arith, c .before .before .before .before .loop-test .taken))
     loop-again
     returns)

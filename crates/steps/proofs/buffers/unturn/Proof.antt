@@ -1,7 +1,5 @@
 -- `unturn` meets its contract. The loop keeps: the places before i hold the entries turned back, and `moved` is the next.
-use mathlib.Core.Path.{_≡_, refl, sym, ap, _∙_}
-use Prim.Native.Nat.{ℕ, suc, _+_, _-_, _≤_, _<_}
-use lib.ListN.{length, getD}
+use Prim.Native.Nat.{_+_, _-_, _≤_}
 use native.Mathlib.Omega.{arith}
 use Rattle.steps.specs.Buffers.{Unturning, unturning-none, unturning-next, unturning-all}
 use borrow.Author.Needs.{needs}
@@ -14,29 +12,17 @@ Inv-loop buf₀ at n moved₀ i₀ buf moved i = (i ≤ n + 1) × Unturning buf�
 abbrev μ-loop : tie.MeasureT-loop
 μ-loop buf₀ at n moved₀ i₀ buf moved i = n + 1 - i
 
-negate-requires : tie.Need-negate-requires Inv-loop μ-loop
-negate-requires c κs = c .before .before .pre .1
-
 loop-holds : tie.Need-loop-holds Inv-loop μ-loop
 loop-holds c =
     let args = c .before .before .before .args in
     let pre = c .before .before .before .pre in
     (omega arith, unturning-none (args .buf .now) (args .at) (args .n) (pre .0) _ (c .negate .ensures))
 
-add-e : tie.Need-add-e Inv-loop μ-loop
-add-e c = omega (arith, c .before .before .before .before .before .pre .0, c .loop-test .taken)
-
 slice-read-e : tie.Need-slice-read-e Inv-loop μ-loop
 slice-read-e c = omega (arith, c .before .before .before .before .before .before .pre .0, c .before .loop-test .taken, c .before .before .loop .inv .1 .filled .size)
 
-add-buf : tie.Need-add-buf Inv-loop μ-loop
-add-buf c = omega (arith, c .before .before .before .before .before .before .pre .0, c .before .loop-test .taken)
-
 slice-write-buf : tie.Need-slice-write-buf Inv-loop μ-loop
 slice-write-buf c = omega (arith, c .before .before .before .before .before .before .pre .0, c .before .loop-test .taken, c .before .before .loop .inv .1 .filled .size)
-
-add-i : tie.Need-add-i Inv-loop μ-loop
-add-i c = omega (arith, c .before .before .before .before .before .before .pre .0, c .before .loop-test .taken)
 
 loop-again : tie.Need-loop-again Inv-loop μ-loop
 loop-again c =
@@ -47,9 +33,6 @@ loop-again c =
       unturning-next (args .buf .now) (args .at) (args .n) (pre .0) (loop .i) (loop .buf) (loop .moved)
           (c .before .loop-test .taken) (loop .inv .1),
     )
-
-same-length : tie.Need-same-length Inv-loop μ-loop
-same-length c = c .before .loop .inv .1 .filled .size
 
 returns : tie.Need-returns Inv-loop μ-loop
 returns c =
@@ -66,14 +49,14 @@ unturn-spec =
     μ-loop
     (λ c. search needs)
     (λ c. search needs)
-    negate-requires
+    (λ c κs. c .before .before .pre .1)
     loop-holds
-    add-e
+    (λ c. omega (arith, c .before .before .before .before .before .pre .0, c .loop-test .taken))
     slice-read-e
-    add-buf
+    (λ c. omega (arith, c .before .before .before .before .before .before .pre .0, c .before .loop-test .taken))
     slice-write-buf
-    add-i
+    (λ c. omega (arith, c .before .before .before .before .before .before .pre .0, c .before .loop-test .taken))
     (λ c. search needs)
     loop-again
-    same-length
+    (λ c. c .before .loop .inv .1 .filled .size)
     returns)

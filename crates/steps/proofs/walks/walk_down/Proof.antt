@@ -1,9 +1,8 @@
 -- `walk_down` meets its contract. The loop keeps: the name in the buffer is t steps down the path, and k its split place.
-use mathlib.Core.Path.{_≡_, refl, sym, ap, _∙_, subst}
-use Prim.Native.Nat.{ℕ, suc, _+_, _-_, _≤_, _<_}
-use lib.ListN.{length, getD, take, drop, length-set}
+use mathlib.Core.Path.{_≡_, sym, ap, _∙_}
+use Prim.Native.Nat.{_-_, _≤_}
+use lib.ListN.{length}
 use native.Mathlib.Omega.{arith}
-use mathlib.Core.List.{List, _++_}
 use native.Mathlib.Numerals.{add-one}
 use Rattle.dimension.specs.Sizes.{axesOf, splitPlace}
 use Rattle.dimension.specs.Laws.{axes-range, split-range, split-after, at-root}
@@ -53,9 +52,6 @@ loop-again c =
           (the-loop-test .taken) _ (step-in .ensures),
     )
 
-same-length : tie.Need-same-length Inv-loop μ-loop
-same-length c = c .before .loop .inv .2 .size
-
 returns : tie.Need-returns Inv-loop μ-loop
 returns c = let e : c .before .loop .t ≡ length (c .before .before .before .before .before .args .path .now) = omega (arith, c .before .loop .inv .0) in rw (← e) (c .before .loop .inv .2)
 
@@ -73,5 +69,5 @@ walk-down-spec =
     (λ c. search needs)
     (λ c. search needs)
     loop-again
-    same-length
+    (λ c. c .before .loop .inv .2 .size)
     returns)

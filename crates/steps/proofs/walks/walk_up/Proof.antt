@@ -1,11 +1,10 @@
 -- `walk_up` meets its contract. The loop keeps: from depth t on, the way up gives the root and the path; k is its split place,
 -- and boxes counts its boxes.
-use mathlib.Core.Path.{_≡_, refl, sym, ap, _∙_, subst}
-use Prim.Native.Nat.{ℕ, suc, _+_, _-_, _≤_, _<_}
-use lib.ListN.{length, getD, take, drop}
+use mathlib.Core.Path.{_≡_, sym, ap, _∙_, subst}
+use Prim.Native.Nat.{ℕ, _-_, _≤_}
 use mathlib.Core.List.{List}
 use native.Mathlib.Omega.{arith}
-use Rattle.dimension.specs.Sizes.{axesOf, splitPlace, boxDepth}
+use Rattle.dimension.specs.Sizes.{splitPlace, boxDepth}
 use Rattle.dimension.specs.Laws.{axes-range, split-range}
 use Rattle.steps.specs.Above.{above-ready, above-place, above-boxes, own-by, boxes-room}
 use Rattle.steps.specs.Climbs.{ClimbReady, Climbed, climb-none, up-split, up-size, up-ready, up-next}
@@ -119,12 +118,6 @@ loop-again c =
           (own-of .ensures)) (c .before .before .unstep .ensures),
     )
 
-same-length : tie.Need-same-length Inv-loop μ-loop
-same-length c = c .before .loop .inv .3 .root-size
-
-same-length-2 : tie.Need-same-length-2 Inv-loop μ-loop
-same-length-2 c = c .before .loop .inv .3 .path-size
-
 returns : tie.Need-returns Inv-loop μ-loop
 returns c = let e : c .before .loop .t ≡ 0 = omega (arith, c .loop-test .left) in rw (e, c .before .before .before .before .axes .ensures) at (c .before .loop .inv .3)
 
@@ -147,6 +140,6 @@ walk-up-spec =
     slice-write-path
     (λ c. search needs)
     loop-again
-    same-length
-    same-length-2
+    (λ c. c .before .loop .inv .3 .root-size)
+    (λ c. c .before .loop .inv .3 .path-size)
     returns)

@@ -1,19 +1,12 @@
 -- `write_code` meets its contract: two bytes, the root, and the walk down the path.
-use mathlib.Core.Path.{_≡_, refl, sym, ap, _∙_, subst}
-use mathlib.Core.List.{List, _++_}
-use Prim.Native.Nat.{ℕ, suc, _+_, _-_, _%_, _≤_, _<_}
-use lib.ListN.{length, getD, take, drop, length-set}
+use mathlib.Core.Path.{refl, _∙_}
+use Prim.Native.Nat.{_-_}
+use lib.ListN.{length-set}
 use native.Mathlib.Omega.{arith}
 use Rattle.steps.specs.Descents.{code-two, code-d, code-depth, code-ready, code-written}
 use borrow.Author.Needs.{needs}
 use Rattle.steps.proofs.walks.write_code.Statement.{statement}
 use Rattle.steps.proofs.walks.write_code.Tie as tie
-
-slice-write-code : tie.Need-slice-write-code
-slice-write-code c = omega (arith, code-two (c .before .before .before .before .pre))
-
-slice-write-code-2 : tie.Need-slice-write-code-2
-slice-write-code-2 c = simp length-set (omega (arith, code-two (c .before .before .before .before .pre)))
 
 copy-requires : tie.Need-copy-requires
 copy-requires c κs =
@@ -26,9 +19,6 @@ walk-down-requires c κs =
     let axes = c .before .before .before .before .before .axes in
     let copy = c .before .before .before .copy in
     rw (copy .ensures, axes .ensures, code-d (pre), code-depth (pre)) (code-ready (pre))
-
-same-length : tie.Need-same-length
-same-length c = c .before .code2 .given ∙ (c .before .before .before .before .before .code .given ∙ simp length-set refl)
 
 returns : tie.Need-returns
 returns c =
@@ -43,10 +33,10 @@ write-code-spec =
     (tie.spec
     (λ c κs. search needs)
     (λ c. search needs)
-    slice-write-code
+    (λ c. omega (arith, code-two (c .before .before .before .before .pre)))
     (λ c. search needs)
-    slice-write-code-2
+    (λ c. simp length-set (omega (arith, code-two (c .before .before .before .before .pre))))
     copy-requires
     walk-down-requires
-    same-length
+    (λ c. c .before .code2 .given ∙ (c .before .before .before .before .before .code .given ∙ simp length-set refl))
     returns)
