@@ -15,10 +15,6 @@ shared-slice-read-checked c =
     let pre = c .before .before .pre in
     omega (arith, ready-room (pre))
 
-checked-requires : tie.Need-checked-requires
-unfolding dimensionOf
-checked-requires c κs = search (needs, ready-dimension)
-
 permuted-requires : tie.Need-permuted-requires
 unfolding dimensionOf
 permuted-requires c κs =
@@ -123,7 +119,7 @@ code-body-spec =
     tie.close
     (tie.spec
     shared-slice-read-checked
-    checked-requires
+    (λ c κs. unfold dimensionOf in search (needs, ready-dimension))
     (λ c κs. search needs)
     permuted-requires
     returns

@@ -4,9 +4,7 @@ use Rattle.bisection.specs.Codes.{minus}
 use Rattle.entries.proofs.is_minus.Statement.{statement}
 use Rattle.entries.proofs.is_minus.Tie as tie
 
-returns : tie.Need-returns
-unfolding minus
-returns c = refl
-
 pub is-minus-spec : {M : Type 1} → statement M
-is-minus-spec = tie.close (tie.spec returns)
+is-minus-spec = tie.close
+    (tie.spec
+    (λ c. unfold minus in refl))

@@ -30,10 +30,6 @@ copy-front-requires c κs =
     let axes = c .before .before .before .axes in
     rw (counted _ _ _ _ (axes .ensures) (c .before .before .box-depth .ensures)) (parent-four (pre), parent-few (pre), parent-front (pre), pre .room)
 
-sub-out : tie.Need-sub-out
-unfolding depthOf
-sub-out c = omega (arith, c .before .before .before .before .before .before .before .before .before .before .pre .depth)
-
 slice-write-out : tie.Need-slice-write-out
 unfolding codeLength
 slice-write-out c =
@@ -84,7 +80,7 @@ write-parent-spec =
     add-copy-front-2
     copy-front-requires
     (λ c. omega (arith, parent-two (c .before .before .before .before .before .before .before .before .before .before .pre)))
-    sub-out
+    (λ c. unfold depthOf in omega (arith, c .before .before .before .before .before .before .before .before .before .before .pre .depth))
     slice-write-out
     sub-unstep
     unstep-requires

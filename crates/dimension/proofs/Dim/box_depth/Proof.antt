@@ -13,10 +13,6 @@ mul-result c =
     let args = c .before .before .args in
     record { fits = fits-product (args .depth) (c .twelfths .result) (c .before .if1 .taken) (twelfths-few _ _ (axes-range (args .self)) (c .twelfths .ensures)) }
 
-returns-2 : tie.Need-returns-2
-unfolding boxDepth
-returns-2 c = rw (c .axes .ensures) refl
-
 pub box-depth-spec : {M : Type 1} → statement M
 box-depth-spec =
     tie.close
@@ -26,4 +22,4 @@ box-depth-spec =
     (λ c. box-depth-by _ _ _ (omega (arith, (axes-range (c .before .before .args .self)) .two)) (c .twelfths .ensures))
     (λ c κs. search needs)
     (λ c. omega (arith, c .axes .ensures, (axes-range (c .before .before .args .self)) .two))
-    returns-2)
+    (λ c. unfold boxDepth in rw (c .axes .ensures) refl))

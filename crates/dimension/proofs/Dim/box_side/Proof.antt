@@ -6,14 +6,10 @@ use borrow.Author.Needs.{needs}
 use Rattle.dimension.proofs.Dim.box_side.Statement.{statement}
 use Rattle.dimension.proofs.Dim.box_side.Tie as tie
 
-returns : tie.Need-returns
-unfolding boxSide sideAfter cubeSide halvings
-returns c = simp (c .box-depth .ensures)
-
 pub box-side-spec : {M : Type 1} → statement M
 box-side-spec = tie.close
     (tie.spec
     (λ c κs. search needs)
     (λ c. omega (arith, boxes-few (axesOf (c .before .args .self)) (c .before .args .depth) (axes-range (c .before .args .self)) (c .before .pre)))
     (λ c. omega (arith, boxes-few (axesOf (c .before .args .self)) (c .before .args .depth) (axes-range (c .before .args .self)) (c .before .pre)))
-    returns)
+    (λ c. unfold boxSide sideAfter cubeSide halvings in simp (c .box-depth .ensures)))

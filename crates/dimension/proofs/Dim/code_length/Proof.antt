@@ -11,10 +11,6 @@ add-result-2 c =
     let args = c .before .before .args in
     omega (arith, axes-range (args .self) .few, box-small (axesOf (args .self)) (args .depth) (axes-range (args .self)))
 
-returns : tie.Need-returns
-unfolding codeLength
-returns c = simp (c .before .axes .ensures, c .box-depth .ensures)
-
 pub code-length-spec : {M : Type 1} → statement M
 code-length-spec =
     tie.close
@@ -23,4 +19,4 @@ code-length-spec =
     (λ c. omega (arith, axes-range (c .before .args .self) .few))
     (λ c κs. search needs)
     add-result-2
-    returns)
+    (λ c. unfold codeLength in simp (c .before .axes .ensures, c .box-depth .ensures)))

@@ -6,13 +6,9 @@ use borrow.Author.Needs.{needs}
 use Rattle.dimension.proofs.Dim.greatest_depth.Statement.{statement}
 use Rattle.dimension.proofs.Dim.greatest_depth.Tie as tie
 
-returns : tie.Need-returns
-unfolding greatestDepth halvings
-returns c = simp (c .axes .ensures)
-
 pub greatest-depth-spec : {M : Type 1} → statement M
 greatest-depth-spec = tie.close
     (tie.spec
     (λ c κs. search needs)
     (λ c. omega (arith, axes-range (c .before .args .self) .few))
-    returns)
+    (λ c. unfold greatestDepth halvings in simp (c .axes .ensures)))

@@ -5,13 +5,9 @@ use borrow.Author.Needs.{needs}
 use Rattle.dimension.proofs.Dim.longest_code.Statement.{statement}
 use Rattle.dimension.proofs.Dim.longest_code.Tie as tie
 
-returns : tie.Need-returns
-unfolding longestCode
-returns c = c .code-length .ensures ∙ ap (codeLength (axesOf (c .before .before .args .self))) (c .before .greatest-depth .ensures)
-
 pub longest-code-spec : {M : Type 1} → statement M
 longest-code-spec = tie.close
     (tie.spec
     (λ c κs. search needs)
     (λ c κs. search needs)
-    returns)
+    (λ c. unfold longestCode in c .code-length .ensures ∙ ap (codeLength (axesOf (c .before .before .args .self))) (c .before .greatest-depth .ensures)))

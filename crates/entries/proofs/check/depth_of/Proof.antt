@@ -6,13 +6,9 @@ use borrow.Author.Needs.{needs}
 use Rattle.entries.proofs.check.depth_of.Statement.{statement}
 use Rattle.entries.proofs.check.depth_of.Tie as tie
 
-returns : tie.Need-returns
-unfolding depthOf
-returns c = c .size .ensures
-
 pub depth-of-spec : {M : Type 1} → statement M
 depth-of-spec = tie.close
     (tie.spec
     (λ c. omega (arith, checked-two (c .before .before .args .code .now) (c .before .before .pre)))
     (λ c κs. search needs)
-    returns)
+    (λ c. unfold depthOf in c .size .ensures))

@@ -5,17 +5,9 @@ use Rattle.entries.specs.Passed.{checked, checked-two}
 use Rattle.entries.proofs.check.dimension_of.Statement.{statement}
 use Rattle.entries.proofs.check.dimension_of.Tie as tie
 
-checked-requires : tie.Need-checked-requires
-unfolding dimensionOf
-checked-requires c κs = checked (c .before .before .args .code .now) (c .before .before .pre) .good .dimension
-
-returns : tie.Need-returns
-unfolding dimensionOf
-returns c = c .checked .ensures
-
 pub dimension-of-spec : {M : Type 1} → statement M
 dimension-of-spec = tie.close
     (tie.spec
     (λ c. omega (arith, checked-two (c .before .before .args .code .now) (c .before .before .pre)))
-    checked-requires
-    returns)
+    (λ c κs. unfold dimensionOf in checked (c .before .before .args .code .now) (c .before .before .pre) .good .dimension)
+    (λ c. unfold dimensionOf in c .checked .ensures))

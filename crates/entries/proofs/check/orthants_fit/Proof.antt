@@ -35,10 +35,6 @@ shared-slice-read-any c =
     let loop = c .before .before .before .loop in
     let n : ℕ = length (args .code .now) - (2 + args .d) in omega (arith, c .before .place-in .ensures, place-within (loop .i) n (omega (arith, if1 .left)))
 
-loop-less : tie.Need-loop-less Inv-loop μ-loop
-unfolding halvings
-loop-less c = omega (arith, c .before .before .loop-test .taken)
-
 loop-again : tie.Need-loop-again Inv-loop μ-loop
 loop-again c =
     let code = c .before .before .before .before .before .before .args .code .now in
@@ -67,7 +63,7 @@ orthants-fit-spec =
     add-any
     shared-slice-read-any
     (λ c. search needs)
-    loop-less
+    (λ c. unfold halvings in omega (arith, c .before .before .loop-test .taken))
     loop-again
     (λ c. omega (arith, c .before .before .before .before .pre .0))
     (λ c. c .before .before .before .before .pre .0)

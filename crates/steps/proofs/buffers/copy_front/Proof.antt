@@ -24,10 +24,6 @@ copy-four-requires c κs =
     let p : c .before .place-in .result + 4 ≤ args .n = omega (arith, c .before .place-in .ensures, place-no-later (loop .i) (args .n - 4), pre .0) in
     (omega (arith, p, pre .2), omega (arith, p, pre .3, loop .inv .so-far .size))
 
-loop-less : tie.Need-loop-less Inv-loop μ-loop
-unfolding mostAxes halvings
-loop-less c = omega (arith, longest-is, c .before .before .before .before .before .loop-test .taken)
-
 loop-again : tie.Need-loop-again Inv-loop μ-loop
 loop-again c =
     let loop = c .before .before .before .before .before .before .loop in
@@ -60,7 +56,7 @@ copy-front-spec =
     (λ c κs. search needs)
     copy-four-requires
     (λ c. omega (arith, c .before .before .before .before .before .loop-test .taken))
-    loop-less
+    (λ c. unfold mostAxes halvings in omega (arith, longest-is, c .before .before .before .before .before .loop-test .taken))
     loop-again
     copy-four-requires-2
     (λ c. c .before .before .copy-four2 .ensures .size ∙ c .before .before .before .before .before .loop .inv .so-far .size)
