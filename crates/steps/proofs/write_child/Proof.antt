@@ -42,7 +42,7 @@ write-child-spec =
     (tie.spec
     copy-front-requires
     (λ c. omega (arith, child-two (c .before .before .before .before .before .before .before .pre)))
-    (λ c. record { fits = child-byte (c .before .before .before .before .before .before .before .pre) })
+    (λ c. omega (arith, child-byte (c .before .before .before .before .before .before .before .pre)))
     slice-write-out
     (λ c κs. search needs)
     step-in-requires

@@ -28,7 +28,8 @@ copy-front-requires : tie.Need-copy-front-requires
 copy-front-requires c κs =
     let pre = c .before .before .before .before .before .before .pre in
     let axes = c .before .before .before .axes in
-    rw (counted _ _ _ _ (axes .ensures) (c .before .before .box-depth .ensures)) (parent-four (pre), parent-few (pre), parent-front (pre), pre .room)
+    let size = counted _ _ _ _ (axes .ensures) (c .before .before .box-depth .ensures) in
+    omega (arith, size, parent-four pre, parent-few pre, parent-front pre, pre .room)
 
 slice-write-out : tie.Need-slice-write-out
 unfolding codeLength
