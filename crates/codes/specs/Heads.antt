@@ -1,13 +1,13 @@
 -- The head of a code and the order of refusals, one law for each way out of the code that decides them.
 use mathlib.Core.Path.{_≡_, refl, sym, _∙_}
-use mathlib.Core.Bool.{true, false, _&&_}
+use mathlib.Core.Bool.{Bool, true, false, not, _&&_}
 use mathlib.Core.List.{List}
 use mathlib.Core.Logic.{_≢_}
 use Prim.Native.Nat.{ℕ, _+_, _≤_, _<_}
 use native.Mathlib.Omega.{arith}
 use lib.Dec.{leb}
 use lib.ListN.{length, getD, drop}
-use borrow.Author.Tests.{lt-leb, le-leb, ne-eqb, leb-true}
+use borrow.Author.Tests.{lt-leb, le-leb, ne-eqb, leb-true, not-true, not-false}
 use Rattle.dimension.specs.Sizes.{isDimension, halvings, greatestDepth, codeLength, boxDepth, splitPlace}
 use Rattle.dimension.specs.Laws.{Dimension, dimension, box-in, split-range}
 use Rattle.bisection.specs.Codes.{axis, dimensionOf, depthOf, entriesOf, orthantsOf}
@@ -69,65 +69,70 @@ module _ {code : List ℕ} (b : Headed code) where
   pub ready-few : length code ≤ 2 + dimensionOf code + halvings
   ready-few = omega (arith, size, box-in (dimensionOf code) (depthOf code) (omega (arith, ready-range .two)) ready-depth)
 
--- the split place as the code has it
-pub record SplitAt (d D n k : ℕ) : Type 0 where
-  pub is : k ≡ splitPlace d D
-  pub low : 1 ≤ k
-  pub high : k ≤ n
+-- entries that make a permutation have axes with bits
+axes-within : (code : List ℕ) (n : ℕ) → permutes n (drop 2 code) ≡ true → n ≤ 8 → (k : ℕ) → k ≤ n → AxesWithin k code
+unfolding permutes
+axes-within code n p small k l = record {
+  low = λ i h. rw (at-place code 2 i) (leb-true 1 (axis (getD (drop 2 code) i 0)) (both (leb 1 (axis (getD (drop 2 code) i 0))) (leb (axis (getD (drop 2 code) i 0)) n) (fit i h) .0));
+  high = λ i h. rw (at-place code 2 i) (omega (arith, leb-true (axis (getD (drop 2 code) i 0)) n (both (leb 1 (axis (getD (drop 2 code) i 0))) (leb (axis (getD (drop 2 code) i 0)) n) (fit i h) .1)));
+}
+  where
+    fit : (i : ℕ) → i < k → (leb 1 (axis (getD (drop 2 code) i 0)) && leb (axis (getD (drop 2 code) i 0)) n) ≡ true
+    fit i h = both (leb 1 (axis (getD (drop 2 code) i 0)) && leb (axis (getD (drop 2 code) i 0)) n) (fresh (drop 2 code) (axis (getD (drop 2 code) i 0)) i) (each-at n (entryFits n (drop 2 code)) p i (omega arith)) .0
 
-pub ready-split : {code : List ℕ} → Headed code → (n : ℕ) → n ≡ dimensionOf code → (k : ℕ) → k ≡ splitPlace (dimensionOf code) (depthOf code) → SplitAt (dimensionOf code) (depthOf code) n k
-ready-split {code} b n e k q =
-    let range = split-range (dimensionOf code) (depthOf code) (omega (arith, ready-range b .two)) in
-    record { is = q; low = omega (arith, range .0); high = omega (arith, range .1) }
+-- the body, one law for each way out, over what the code has found there
+module _ {code : List ℕ} (ready : Headed code) {a n : ℕ} (byte : a ≡ getD code 0 0) (axes : n ≡ a) {permuted : Bool} (tested : permuted ≡ permutes n (drop 2 code)) where
+  is-dimension : n ≡ dimensionOf code
+  unfolding dimensionOf
+  is-dimension = axes ∙ byte
 
--- the body's refusals: n is the dimension and k the split place as the code has them
-module _ (code : List ℕ) (n : ℕ) (e : n ≡ dimensionOf code) where
-  abbrev pub es : List ℕ
-  es = drop 2 code
-
-  abbrev pub os : List ℕ
-  os = drop (2 + n) code
-
-  permuted-as : permutes (dimensionOf code) (entriesOf code) ≡ permutes n es
+  permuted-as : permutes (dimensionOf code) (entriesOf code) ≡ permuted
   unfolding entriesOf
-  permuted-as = rw (← e) (permutes-take n (drop 2 code))
+  permuted-as = rw (← is-dimension) (permutes-take n (drop 2 code) ∙ sym tested)
 
-  fit-as : orthantsFit (dimensionOf code) (orthantsOf code) ≡ orthantsFit n os
-  unfolding orthantsOf
-  fit-as = rw (← e) refl
-
-  signs-as : (k : ℕ) → k ≡ splitPlace (dimensionOf code) (depthOf code) → k ≤ n → signsOwn (splitPlace (dimensionOf code) (depthOf code)) (entriesOf code) (orthantsOf code) ≡ signsBy k es (ownByte os)
-  unfolding entriesOf orthantsOf
-  signs-as k q l = rw (← q, ← e) (sym (signs-by n k (drop 2 code) (drop (2 + n) code) l))
-
-  pub body-permutation : permutes n es ≡ false → refusedPermutation ≡ innerRefusal code
+  pub body-permutation : not permuted ≡ true → refusedPermutation ≡ innerRefusal code
   unfolding bodyRefusal
-  body-permutation h = sym (inner-refusal code ∙ first-is (fails (permuted-as ∙ h)))
+  body-permutation h = sym (inner-refusal code ∙ first-is (fails (permuted-as ∙ not-true permuted h)))
 
-  module _ (p : permutes n es ≡ true) where
-    pub body-orthant : orthantsFit n os ≡ false → refusedOrthant ≡ innerRefusal code
+  module _ (t : not permuted ≡ false) {fitting : Bool} (fits : fitting ≡ orthantsFit n (drop (2 + n) code)) where
+    permutation : permutes (dimensionOf code) (entriesOf code) ≡ true
+    permutation = permuted-as ∙ not-false permuted t
+
+    fit-as : orthantsFit (dimensionOf code) (orthantsOf code) ≡ fitting
+    unfolding orthantsOf
+    fit-as = rw (← is-dimension) (sym fits)
+
+    pub body-orthant : not fitting ≡ true → refusedOrthant ≡ innerRefusal code
     unfolding bodyRefusal
-    body-orthant h = sym (inner-refusal code ∙ first-is (holds (permuted-as ∙ p) (fails (fit-as ∙ h))))
+    body-orthant h = sym (inner-refusal code ∙ first-is (holds permutation (fails (fit-as ∙ not-true fitting h))))
 
-    module _ (o : orthantsFit n os ≡ true) (k : ℕ) (q : k ≡ splitPlace (dimensionOf code) (depthOf code)) (l : k ≤ n) where
-      pub body-sign : signsBy k es (ownByte os) ≡ false → refusedSign ≡ innerRefusal code
-      unfolding bodyRefusal
-      body-sign h = sym (inner-refusal code ∙ first-is (holds (permuted-as ∙ p) (holds (fit-as ∙ o) (fails (signs-as k q l ∙ h)))))
+    module _ (u : not fitting ≡ false) {D k own : ℕ} (depth : D ≡ getD code 1 0) (split : k ≡ splitPlace a D) (owned : own ≡ ownByte (drop (2 + n) code)) where
+      split-is : k ≡ splitPlace (dimensionOf code) (depthOf code)
+      unfolding dimensionOf depthOf
+      split-is = rw (← byte, ← depth) split
 
-      pub body-done : signsBy k es (ownByte os) ≡ true → done ≡ innerRefusal code
-      unfolding bodyRefusal
-      body-done h = sym (inner-refusal code ∙ first-is (holds (permuted-as ∙ p) (holds (fit-as ∙ o) (holds (signs-as k q l ∙ h) all-hold))))
+      place : (1 ≤ k) × (k ≤ n)
+      place = omega (arith, split-range (dimensionOf code) (depthOf code) (omega (arith, ready-range ready .two)), split-is, is-dimension)
 
-    -- the entries that the sign test reads have axes with bits
-    pub axes-within : n ≤ 8 → (k : ℕ) → k ≤ n → AxesWithin k code
-    unfolding permutes
-    axes-within small k l = record {
-      low = λ i h. rw (at-place code 2 i) (leb-true 1 (axis (getD (drop 2 code) i 0)) (both (leb 1 (axis (getD (drop 2 code) i 0))) (leb (axis (getD (drop 2 code) i 0)) n) (fit i h) .0));
-      high = λ i h. rw (at-place code 2 i) (omega (arith, leb-true (axis (getD (drop 2 code) i 0)) n (both (leb 1 (axis (getD (drop 2 code) i 0))) (leb (axis (getD (drop 2 code) i 0)) n) (fit i h) .1)));
-    }
-      where
-        fit : (i : ℕ) → i < k → (leb 1 (axis (getD (drop 2 code) i 0)) && leb (axis (getD (drop 2 code) i 0)) n) ≡ true
-        fit i h = both (leb 1 (axis (getD (drop 2 code) i 0)) && leb (axis (getD (drop 2 code) i 0)) n) (fresh (drop 2 code) (axis (getD (drop 2 code) i 0)) i) (each-at n (entryFits n (drop 2 code)) p i (omega arith)) .0
+      -- the entries that the sign test reads have axes with bits
+      pub body-signs : (1 ≤ k) × (k ≤ 4) × (2 + k ≤ length code) × AxesWithin k code
+      body-signs = (place .0, omega (arith, place .1, is-dimension, ready-range ready .few), omega (arith, place .1, is-dimension, ready-room ready), within)
+        where
+          within : AxesWithin k code
+          within = axes-within code n (sym tested ∙ not-false permuted t) (omega (arith, is-dimension, ready-range ready .few)) k (place .1)
+
+      module _ {signed : Bool} (signs : signed ≡ signsBy k (drop 2 code) own) where
+        signs-as : signsOwn (splitPlace (dimensionOf code) (depthOf code)) (entriesOf code) (orthantsOf code) ≡ signed
+        unfolding entriesOf orthantsOf
+        signs-as = rw (← split-is, ← is-dimension) (sym (signs-by n k (drop 2 code) (drop (2 + n) code) (place .1)) ∙ rw (← owned) (sym signs))
+
+        pub body-sign : not signed ≡ true → refusedSign ≡ innerRefusal code
+        unfolding bodyRefusal
+        body-sign h = sym (inner-refusal code ∙ first-is (holds permutation (holds (fit-as ∙ not-false fitting u) (fails (signs-as ∙ not-true signed h)))))
+
+        pub body-done : not signed ≡ false → done ≡ innerRefusal code
+        unfolding bodyRefusal
+        body-done h = sym (inner-refusal code ∙ first-is (holds permutation (holds (fit-as ∙ not-false fitting u) (holds (signs-as ∙ not-false signed h) all-hold))))
 
 -- the whole check, one law for each way out
 module _ (code : List ℕ) where
