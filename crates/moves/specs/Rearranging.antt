@@ -137,21 +137,21 @@ module _ {k i : ℕ} {l : List ℕ} (m : Movable k i l) where
 
 -- each way out
 module _ (own : ℕ) {k : ℕ} {l : List ℕ} (m : MovableAt k l) where
-  pub first-own : ownNext k own l ≡ true → (r : List ℕ) → r ≡ atPlace 2 (turned (suc k)) l → Rearranges k (cond (ownNext k own l) left trade) l k r
+  pub first-own : {b : Bool} → b ≡ ownNext k own l → b ≡ true → (r : List ℕ) → r ≡ atPlace 2 (turned (suc k)) l → Rearranges k (cond (ownNext k own l) left trade) l k r
   unfolding entriesBy newAt
-  first-own e r f = rw e (record { entries = λ d. f; new = λ d. refl })
+  first-own o e r f = rw (sym o ∙ e) (record { entries = λ d. f; new = λ d. refl })
 
-  pub first-against : ownNext k own l ≡ false → (r : List ℕ) → r ≡ atPlace 2 (traded k) l → Rearranges k (cond (ownNext k own l) left trade) l 0 r
+  pub first-against : {b : Bool} → b ≡ ownNext k own l → b ≡ false → (r : List ℕ) → r ≡ atPlace 2 (traded k) l → Rearranges k (cond (ownNext k own l) left trade) l 0 r
   unfolding entriesBy newAt atPlace
-  first-against e r f = rw e (record { entries = λ d. f ∙ ap (λ (x : List ℕ). take 2 l ++ x) (traded-as k (drop 2 l) (m .some) (rw (length-drop 2 l) (omega (arith, m .room)))); new = λ d. refl })
+  first-against o e r f = rw (sym o ∙ e) (record { entries = λ d. f ∙ ap (λ (x : List ℕ). take 2 l ++ x) (traded-as k (drop 2 l) (m .some) (rw (length-drop 2 l) (omega (arith, m .room)))); new = λ d. refl })
 
-  pub split-own : ownNext k own l ≡ true → (r : List ℕ) → r ≡ atPlace 2 (exchanged (k - 1) k) l → Rearranges k (cond (ownNext k own l) (swap k) right) l k r
+  pub split-own : {b : Bool} → b ≡ ownNext k own l → b ≡ true → (r : List ℕ) → r ≡ atPlace 2 (exchanged (k - 1) k) l → Rearranges k (cond (ownNext k own l) (swap k) right) l k r
   unfolding entriesBy newAt
-  split-own e r f = rw e (record { entries = λ d. f; new = λ d. refl })
+  split-own o e r f = rw (sym o ∙ e) (record { entries = λ d. f; new = λ d. refl })
 
-  pub split-against : ownNext k own l ≡ false → (r : List ℕ) → r ≡ atPlace 2 (unturned k) l → Rearranges k (cond (ownNext k own l) (swap k) right) l 0 r
+  pub split-against : {b : Bool} → b ≡ ownNext k own l → b ≡ false → (r : List ℕ) → r ≡ atPlace 2 (unturned k) l → Rearranges k (cond (ownNext k own l) (swap k) right) l 0 r
   unfolding entriesBy newAt
-  split-against e r f = rw e (record { entries = λ d. f; new = λ d. refl })
+  split-against o e r f = rw (sym o ∙ e) (record { entries = λ d. f; new = λ d. refl })
 
 module _ (own k i : ℕ) (l : List ℕ) where
   pub within-first : i ≡ 0 → {place : ℕ} {r : List ℕ} → Rearranges k (cond (ownNext k own l) left trade) l place r → Rearranges k (within k i (ownNext k own l)) l place r

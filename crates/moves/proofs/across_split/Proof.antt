@@ -1,23 +1,8 @@
 -- `across_split` meets its contract: the sign of entry k + 1 decides between the two rows of facet k.
-use mathlib.Core.Path.{sym, _∙_}
 use Rattle.moves.specs.Rearranging.{split-own, split-against}
 use borrow.Author.Needs.{needs}
 use Rattle.moves.proofs.across_split.Statement.{statement}
 use Rattle.moves.proofs.across_split.Tie as tie
-
-returns : tie.Need-returns
-returns c =
-    let pre = c .before .before .before .before .before .before .before .before .pre in
-    let same-sign = c .before .before .before .before .before .same-sign in
-    let if1 = c .before .before .before .before .if1 in
-    split-own _ (pre) (sym (same-sign .ensures) ∙ if1 .taken) _ (c .before .before .exchange .ensures)
-
-returns-2 : tie.Need-returns-2
-returns-2 c =
-    let pre = c .before .before .before .before .before .before .before .before .pre in
-    let same-sign = c .before .before .before .before .before .same-sign in
-    let if1 = c .before .before .before .before .if1 in
-    split-against _ (pre) (sym (same-sign .ensures) ∙ if1 .left) _ (c .before .before .unturn .ensures)
 
 pub across-split-spec : {M : Type 1} → statement M
 across-split-spec =
@@ -28,7 +13,7 @@ across-split-spec =
     (λ c κs. search needs)
     (λ c κs. search needs)
     (λ c. search needs)
-    returns
+    (λ c. search (needs, split-own))
     (λ c κs. search needs)
     (λ c. search needs)
-    returns-2)
+    (λ c. search (needs, split-against)))

@@ -117,22 +117,23 @@ module _ {d k : ℕ} {c c' : Frame} (g : GoodFrame d k c) (g' : GoodFrame d k c'
         pick a l (at-w e q x) = simp applies (record { at = q; near = x; far = far-of a l })
         pick a l (other n h q x) = simp applies (record { at = q; near = x; far = far-of a l })
 
+  -- the axis of place k + 1
+  abbrev b : ℕ
+  b = c .axis (suc k)
+
+  b-in : k < d → c .axis (suc k) < d
+  b-in kd = g .perm .axis (suc k) (omega arith) kd
+
+  b-at : k < d → c .at (c .axis (suc k)) ≡ suc k
+  b-at kd = g .perm .back (suc k) (omega arith) kd
+
   -- a swap at k brings the entry of place k + 1 to a place of the own sign
   pub swap-own : 1 ≤ k → k < d → ((a : ℕ) → a < d → LandsAt d k (swap k) c c' a) → own k c ≡ true
   unfolding own
-  swap-own k1 kd w = eq-eqb (c .near b % 2) 0 (go (simp (applies, bk) at (w b bd)))
+  swap-own k1 kd w = eq-eqb (c .near b % 2) 0 (go (simp (applies, b-at kd) at (w b (b-in kd))))
     where
-      b : ℕ
-      b = c .axis (suc k)
-
-      bd : b < d
-      bd = g .perm .axis (suc k) (omega arith) kd
-
-      bk : c .at b ≡ suc k
-      bk = g .perm .back (suc k) (omega arith) kd
-
       go : Lands (record { at = k; near = c .near b; far = c .far b }) (c' .at b) (c' .near b) (c' .far b) → c .near b % 2 ≡ 0
-      go w = rw (w .near) at (g' .even b bd (omega (arith, w .at)))
+      go w = rw (w .near) at (g' .even b (b-in kd) (omega (arith, w .at)))
 
   -- the facet without the last vertex
   module _ (d1 : 1 ≤ d) (agree : (j : ℕ) → j ≤ d → j ≢ d → Meets d k c j c' j) where
@@ -186,19 +187,10 @@ module _ {d k : ℕ} {c c' : Frame} (g : GoodFrame d k c) (g' : GoodFrame d k c'
   -- a trade brings the entry of place k + 1, turned round, to a place of the own sign
   pub trade-own : 1 ≤ k → k < d → ((a : ℕ) → a < d → LandsAt d k trade c c' a) → own k c ≡ false
   unfolding own
-  trade-own k1 kd w = ne-eqb (c .near b % 2) 0 (go (simp (applies, bk) at (w b bd)))
+  trade-own k1 kd w = ne-eqb (c .near b % 2) 0 (go (simp (applies, b-at kd) at (w b (b-in kd))))
     where
-      b : ℕ
-      b = c .axis (suc k)
-
-      bd : b < d
-      bd = g .perm .axis (suc k) (omega arith) kd
-
-      bk : c .at b ≡ suc k
-      bk = g .perm .back (suc k) (omega arith) kd
-
       go : Lands (record { at = 1; near = c .far b; far = c .near b }) (c' .at b) (c' .near b) (c' .far b) → c .near b % 2 ≢ 0
-      go w q = omega (arith, sides-odd (g .sides b bd), w .near, g' .even b bd (omega (arith, w .at)))
+      go w q = omega (arith, sides-odd (g .sides b (b-in kd)), w .near, g' .even b (b-in kd) (omega (arith, w .at)))
 
 -- the facet without vertex 0 at the start of a level
 module _ {d : ℕ} {c c' : Frame} (g : GoodFrame d d c) (g' : GoodFrame d d c') (d1 : 1 ≤ d) (agree : (j : ℕ) → j ≤ d → j ≢ 0 → Meets d d c j c' j) where
