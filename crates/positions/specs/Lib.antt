@@ -8,6 +8,5 @@ pub mod RootNumbers
 -- That the roots stand in dictionary order of their permutations, for every dimension.
 pub mod DictionaryOrder
 -- What the proofs of the walk up from a code use.
-pub mod Fours
 pub mod Walks
 pub mod Places

@@ -11,6 +11,9 @@ use Rattle.dimension.specs.Sizes.{greatestDepth, splitPlace, boxDepth}
 use Rattle.bisection.specs.Codes.{axis, minus, high}
 use Rattle.bisection.specs.Refusals.{sameSign}
 use Rattle.entries.specs.Walks.{ownByte}
+use Rattle.fours.specs.declared.Four.{Four}
+use Rattle.fours.specs.Fours.{four, BackIs}
+use Rattle.steps.specs.Buffers.{atPlace}
 use Rattle.steps.specs.Steps.{StepsBack}
 use Rattle.steps.specs.Climbs.{ClimbReady, Climbed, climb-none, up-next}
 use Rattle.positions.specs.Positions.{startOf}
@@ -29,6 +32,18 @@ pub record Walked (d D : ℕ) (code : List ℕ) (t : ℕ) (root root' : List ℕ
   pub start-is : start ≡ startOf (greatestDepth d - t) (take (D - t) (drop t path))
   pub half-is : half ≡ 2 ^ (greatestDepth d - t)
   pub inside : start + 1 ≤ half
+
+-- a step back of entries by value is one at the start of a buffer
+from-start : (n : ℕ) → 0 + n ≡ n
+from-start n = omega arith
+
+pub back-at-start : {n own b : ℕ} {es r : List ℕ} → BackIs n own es b r → StepsBack 0 n own es b r
+unfolding atPlace
+back-at-start {n} {own} {es = es} s = record { step = s .step ∙ ap (λ (i : ℕ). cond (sameSign (minus (getD es i 0)) (high own (axis (getD es i 0)))) 0 1) (sym (from-start n)); entries = s .entries }
+
+pub back-ready : (e : Four) (n : ℕ) → (0 + n < length (four e)) × (1 ≤ axis (getD (four e) (0 + n) 0)) × (axis (getD (four e) (0 + n) 0) ≤ 8)
+    → (n < 4) × (1 ≤ axis (getD (four e) n 0)) × (axis (getD (four e) n 0) ≤ 8)
+back-ready e n r = subst (λ (i : ℕ). (i < 4) × (1 ≤ axis (getD (four e) i 0)) × (axis (getD (four e) i 0) ≤ 8)) (from-start n) r
 
 power-pos : (n : ℕ) → 1 ≤ 2 ^ n
 power-pos zero = omega arith
@@ -62,9 +77,9 @@ module _ {d D : ℕ} {code root : List ℕ} {size : ℕ} (k : WalkReady d D code
         back : suc (t - 1) ≡ t
         back = omega arith
 
-    module _ (p own b : ℕ) (r : List ℕ) (e : p ≡ splitPlace d (t - 1) - 1) (o : own ≡ ownByte (take (boxDepth d (t - 1)) (drop (2 + d) code))) (s : StepsBack 0 p own root' b r) where
+    module _ (p own b : ℕ) (r : List ℕ) (e : p ≡ splitPlace d (t - 1) - 1) (o : own ≡ ownByte (take (boxDepth d (t - 1)) (drop (2 + d) code))) (s : BackIs p own root' b r) where
       pub step-small : b ≤ 1
-      step-small = rw (s .step) (zero-or-one (sameSign (minus (getD root' (0 + p) 0)) (high own (axis (getD root' (0 + p) 0)))))
+      step-small = rw (s .step) (zero-or-one (sameSign (minus (getD root' p 0)) (high own (axis (getD root' p 0)))))
         where
           zero-or-one : (x : Bool) → cond x 0 1 ≤ 1
           zero-or-one true = omega arith
@@ -74,7 +89,7 @@ module _ {d D : ℕ} {code root : List ℕ} {size : ℕ} (k : WalkReady d D code
       unfolding M
       walk-next = record {
         path = set (w .path) (t - 1) b;
-        climbed = up-next (k .climb) (w .climbed) pos deep p own b r e o s;
+        climbed = up-next (k .climb) (w .climbed) pos deep p own b r e o (back-at-start s);
         start-is = sym (ap (startOf (greatestDepth d - (t - 1))) (path-is b (w .path) size-of) ∙ rw up lead);
         half-is = rw (up, w .half-is) (omega arith);
         inside = omega (arith, w .inside, weighed);

@@ -1,18 +1,16 @@
 // Cells on the line: where the cell of a code that passes stands. It belongs to the code layer: what stands above it
 // knows a cell by its position alone.
-mod four; // four.rt: the entries on the way up, by value
-
 ghost use mathlib.Core.Path.{_≡_};
 ghost use Prim.Native.Nat.{_+_, _-_, _*_, _^_, _≤_, _<_};
 ghost use lib.ListN.{length};
 ghost use Rattle.dimension.specs.Sizes.{axesOf, greatestDepth};
 ghost use Rattle.bisection.specs.Refusals.{done, codeRefusal};
-ghost use Rattle.positions.specs.Fours.{four};
+ghost use Rattle.fours.specs.Fours.{four};
 ghost use Rattle.positions.specs.Positions.{PositionIs};
 ghost use Rattle.positions.specs.RootNumbers.{smallerIn, numberIn};
 ghost use Rattle.positions.specs.Walks.{WalkReady, Walked};
-use crate::four::Four;
 use dimension::Dim;
+use fours::Four;
 
 // The number of a cell's root in dictionary order, and its part of the root's stretch.
 pub struct Position {
@@ -104,7 +102,7 @@ fn walk(code: &[u8], dim: Dim, depth: usize, from: Four, size: u64) -> Origin
             third,
             fourth,
         };
-        let back = four::unstep(here, k - 1, own);
+        let back = fours::unstep(here, k - 1, own);
         first = back.before.first;
         second = back.before.second;
         third = back.before.third;
@@ -130,7 +128,7 @@ pub fn position_of(code: &[u8]) -> Position
     let axes = dim.axes();
     let depth = common::size(code[1]);
     let size = power(dim.greatest_depth() - depth);
-    let origin = walk(code, dim, depth, four::entries_of(code, axes), size);
+    let origin = walk(code, dim, depth, fours::entries_of(code, axes), size);
     let root = [
         origin.root.first,
         origin.root.second,

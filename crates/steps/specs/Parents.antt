@@ -9,7 +9,7 @@ use Rattle.dimension.specs.Sizes.{codeLength, longestOfAll, splitPlace, boxDept
 use Rattle.dimension.specs.Laws.{split-range}
 use Rattle.bisection.specs.Codes.{axis, negated, high, Name, bytes, dimensionOf, depthOf, orthantsOf, partsOf}
 use Rattle.bisection.specs.Refusals.{ownMinus}
-use Rattle.bisection.specs.Theorems.Entries.{unturned}
+use Rattle.bisection.specs.Theorems.Entries.{unturned-append}
 use Rattle.bisection.specs.Theorems.Passing.{Passes, fewer, lastStep, unstepped, parentName}
 use Rattle.bisection.specs.Theorems.CodePaths.{parentCode}
 use Rattle.steps.specs.Buffers.{atPlace}
@@ -20,10 +20,9 @@ use Rattle.steps.specs.Relatives.{ParentReady, length-grows}
 
 -- a turn back of the first entries goes no further
 pub unstepped-append : (b n : ℕ) (es rest : List ℕ) → n < length es → unstepped b n (es ++ rest) ≡ unstepped b n es ++ rest
-unfolding unstepped unturned
+unfolding unstepped
 unstepped-append zero n es rest h = refl
-unstepped-append (suc b) n es rest h = rw (List·getD-append es rest 0 n h, take-append-le n es rest (omega arith), drop-append-le (suc n) es rest h)
-    (ap (λ (l : List ℕ). negated (getD es n 0) ∷ l) (sym (append-assoc (take n es) (drop (suc n) es) rest)))
+unstepped-append (suc b) n es rest h = unturned-append n es rest h
 
 module _ {code out : List ℕ} {d D : ℕ} (r : ParentReady code d D out) where
   k : Checked code

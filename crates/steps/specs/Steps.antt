@@ -12,7 +12,7 @@ use Rattle.dimension.specs.Sizes.{codeLength, splitPlace, boxDepth, level}
 use Rattle.dimension.specs.Laws.{Within, Turned, deeper, split-range}
 use Rattle.bisection.specs.Codes.{axis, minus, negated, turned, stepped, high, orthant, Name, step}
 use Rattle.bisection.specs.Refusals.{sameSign}
-use Rattle.bisection.specs.Theorems.Entries.{Signed, unturned}
+use Rattle.bisection.specs.Theorems.Entries.{Signed, unturned, turned-append}
 use Rattle.bisection.specs.Theorems.Passing.{Passes, unstepped, signed-stepped}
 use Rattle.steps.specs.Buffers.{atPlace}
 
@@ -36,12 +36,7 @@ pub record StepsBack (at n own : ℕ) (l : List ℕ) (b : ℕ) (r : List ℕ) : 
   pub step : b ≡ cond (sameSign (minus (getD l (at + n) 0)) (high own (axis (getD l (at + n) 0)))) 0 1
   pub entries : r ≡ atPlace at (unstepped b n) l
 
--- a turn of the first k goes no further
-pub turned-append : (k : ℕ) (es rest : List ℕ) → 1 ≤ k → k ≤ length es → turned k (es ++ rest) ≡ turned k es ++ rest
-unfolding turned
-turned-append k [] rest h l = absurd (omega arith)
-turned-append k (e ∷ es) rest h l = rw (take-append-le (k - 1) es rest (omega arith), drop-append-le k (e ∷ es) rest l) (sym (append-assoc (take (k - 1) es) (negated e ∷ drop k (e ∷ es)) rest))
-
+-- a step of the first k goes no further
 pub stepped-append : (b k : ℕ) (es rest : List ℕ) → 1 ≤ k → k ≤ length es → stepped b k (es ++ rest) ≡ stepped b k es ++ rest
 unfolding stepped
 stepped-append zero k es rest h l = refl

@@ -2,15 +2,15 @@
 -- entry from one place, so it keeps a signed permutation one.
 use mathlib.Core.Path.{_≡_, refl, sym, ap, _∙_, subst}
 use mathlib.Core.Bool.{Bool, true, false, cond, not}
-use mathlib.Core.List.{List, [], _∷_, _++_}
+use mathlib.Core.List.{List, [], _∷_, _++_, append-assoc}
 use Prim.Native.Nat.{ℕ, zero, suc, _+_, _-_, _≤_, _<_}
 use native.Mathlib.Omega.{arith}
 use native.Mathlib.Decide.{decLt, decLe}
 use lib.Dec.{eqb, leb, ltb}
 use lib.ListN.{length, getD, take, drop, length-take, length-drop, length-append, List·getD-append}
-use lib.Seq.{getD-take, getD-drop, ext-getD, getD-append-add}
-use borrow.Author.Tests.{lt-ltb, le-ltb, le-leb, lt-leb, eq-eqb, ne-eqb, leb-true}
-use Rattle.bisection.specs.Codes.{axis, minus, negated, turned, minusOn}
+use lib.Seq.{getD-take, getD-drop, ext-getD, getD-append-add, take-append-le, drop-append-le}
+use borrow.Author.Tests.{lt-ltb, le-ltb, le-leb, lt-leb, eq-eqb, ne-eqb, leb-true, leb-false}
+use Rattle.bisection.specs.Codes.{axis, minus, negated, turned, stepped, minusOn}
 use Rattle.bisection.specs.Theorems.Lists.{shifted, shifted-before, shifted-at, shifted-past, shifted-length}
 use Rattle.bisection.specs.Theorems.Axis.{Order, order, under, same, over}
 use Rattle.bisection.specs.Theorems.Onto.{Taken, onto}
@@ -130,6 +130,16 @@ module _ (n : ℕ) (es : List ℕ) (h : n < length es) where
   pub unturned-length : length (unturned n es) ≡ length es
   unfolding unturned
   unturned-length = simp (length-append, length-drop, front-length) (omega arith)
+
+-- a turn of the first entries goes no further, and neither does the way back
+pub turned-append : (k : ℕ) (es rest : List ℕ) → 1 ≤ k → k ≤ length es → turned k (es ++ rest) ≡ turned k es ++ rest
+unfolding turned
+turned-append k [] rest h l = absurd (omega arith)
+turned-append k (e ∷ es) rest h l = rw (take-append-le (k - 1) es rest (omega arith), drop-append-le k (e ∷ es) rest l) (sym (append-assoc (take (k - 1) es) (negated e ∷ drop k (e ∷ es)) rest))
+
+pub unturned-append : (n : ℕ) (es rest : List ℕ) → n < length es → unturned n (es ++ rest) ≡ unturned n es ++ rest
+unfolding unturned
+unturned-append n es rest h = rw (List·getD-append es rest 0 n h, take-append-le n es rest (omega arith), drop-append-le (suc n) es rest h) (ap (λ (l : List ℕ). negated (getD es n 0) ∷ l) (sym (append-assoc (take n es) (drop (suc n) es) rest)))
 
 -- the places under a turn: the entry at i came from `source n i`, and went to `target n i`
 unfoldable pub source : ℕ → ℕ → ℕ

@@ -6,7 +6,7 @@ use lib.ListN.{length, getD}
 use Rattle.dimension.specs.Sizes.{greatestDepth}
 use Rattle.bisection.specs.Codes.{dimensionOf, depthOf}
 use Rattle.entries.specs.Passed.{checked, checked-two}
-use Rattle.positions.specs.Fours.{noEntries}
+use Rattle.fours.specs.Fours.{noEntries}
 use Rattle.positions.specs.Places.{few, place-two, place-copy, place-deep, place-small, place-ready, place-room, place-is}
 use borrow.Author.Needs.{needs}
 use Rattle.positions.proofs.position_of.Statement.{statement}

@@ -11,8 +11,7 @@ use Rattle.dimension.specs.Sizes.{axesOf, greatestDepth, splitPlace, boxDepth}
 use Rattle.dimension.specs.Laws.{axes-range, split-range}
 use Rattle.steps.specs.Climbs.{up-split, up-size, up-ready}
 use Rattle.steps.specs.Above.{above-ready, go-boxes, go-place, own-by, boxes-room}
-use Rattle.positions.specs.Fours.{four, ready-is}
-use Rattle.positions.specs.Walks.{WalkReady, Walked, walk-none, walk-next, walk-done, step-small, half-small, one-of, more-of}
+use Rattle.positions.specs.Walks.{WalkReady, Walked, walk-none, walk-next, walk-done, back-ready, step-small, half-small, one-of, more-of}
 use borrow.Author.Needs.{needs}
 use Rattle.positions.proofs.walk.Statement.{statement}
 use Rattle.positions.proofs.walk.Tie as tie
@@ -43,136 +42,43 @@ box-depth-requires : tie.Need-box-depth-requires Inv-loop μ-loop
 box-depth-requires c κs = search needs
 
 loop-holds : tie.Need-loop-holds Inv-loop μ-loop
-loop-holds c =
-    let pre = c .before .before .before .before .pre in
-    let args = c .before .before .before .before .args in
-    let axes = c .before .before .axes in (
-      omega arith,
-      walk-none (ready-at (axes .ensures) (pre)),
-      c .before .split-place .ensures ∙ ap (λ (d : ℕ). splitPlace d (args .depth)) (sym (axes .ensures)),
-      c .box-depth .ensures ∙ ap (λ (d : ℕ). boxDepth d (args .depth)) (sym (axes .ensures)),
-    )
+loop-holds c = (omega arith, walk-none (ready-at (c .before .before .axes .ensures) (c .before .before .before .before .pre)), c .before .split-place .ensures ∙ ap (λ (d : ℕ). splitPlace d (c .before .before .before .before .args .depth)) (sym (c .before .before .axes .ensures)), c .box-depth .ensures ∙ ap (λ (d : ℕ). boxDepth d (c .before .before .before .before .args .depth)) (sym (c .before .before .axes .ensures)))
 
 sub-t : tie.Need-sub-t Inv-loop μ-loop
 sub-t c = search needs
 
 boxes-above-requires : tie.Need-boxes-above-requires Inv-loop μ-loop
-boxes-above-requires c κs =
-    let args = c .before .before .before .before .before .before .args in
-    let axes = c .before .before .before .before .axes in
-    above-ready (some-axes-of (args .dim) _ (axes .ensures)) (c .loop-test .taken) (c .before .loop .inv .2) (c .before .loop .inv .3)
+boxes-above-requires c κs = above-ready (some-axes-of (c .before .before .before .before .before .before .args .dim) _ (c .before .before .before .before .axes .ensures)) (c .loop-test .taken) (c .before .loop .inv .2) (c .before .loop .inv .3)
 
 place-above-requires : tie.Need-place-above-requires Inv-loop μ-loop
-place-above-requires c κs =
-    let args = c .before .before .before .before .before .before .before .args in
-    let axes = c .before .before .before .before .before .axes in
-    let loop = c .before .before .loop in
-    omega (arith, loop .inv .2, split-range (axes .result) (loop .t) (some-axes-of (args .dim) _ (axes .ensures)), axes .ensures, axes-range (args .dim) .few)
+place-above-requires c κs = omega (arith, c .before .before .loop .inv .2, split-range (c .before .before .before .before .before .axes .result) (c .before .before .loop .t) (some-axes-of (c .before .before .before .before .before .before .before .args .dim) _ (c .before .before .before .before .before .axes .ensures)), c .before .before .before .before .before .axes .ensures, axes-range (c .before .before .before .before .before .before .before .args .dim) .few)
 
 own-of-requires : tie.Need-own-of-requires Inv-loop μ-loop
-own-of-requires c κs =
-    let args = c .before .before .before .before .before .before .before .before .args in
-    let pre = c .before .before .before .before .before .before .before .before .pre in
-    let axes = c .before .before .before .before .before .before .axes in
-    let loop = c .before .before .before .loop in
-    let the-loop-test = c .before .before .loop-test in
-    let r = boxes-room (axes .result) (loop .t - 1) (args .code .now)
-    (up-size ((ready-at (axes .ensures) (pre)) .climb) (loop .inv .1 .climbed) (the-loop-test .taken) (loop .inv .0)) in omega
-    (arith, r, go-boxes (some-axes-of (args .dim) _ (axes .ensures)) (the-loop-test .taken) (loop .inv .2) (loop .inv .3) (c .before .boxes-above .ensures))
+own-of-requires c κs = let r = boxes-room (c .before .before .before .before .before .before .axes .result) (c .before .before .before .loop .t - 1) (c .before .before .before .before .before .before .before .before .args .code .now) (up-size ((ready-at (c .before .before .before .before .before .before .axes .ensures) (c .before .before .before .before .before .before .before .before .pre)) .climb) (c .before .before .before .loop .inv .1 .climbed) (c .before .before .loop-test .taken) (c .before .before .before .loop .inv .0)) in omega (arith, r, go-boxes (some-axes-of (c .before .before .before .before .before .before .before .before .args .dim) _ (c .before .before .before .before .before .before .axes .ensures)) (c .before .before .loop-test .taken) (c .before .before .before .loop .inv .2) (c .before .before .before .loop .inv .3) (c .before .boxes-above .ensures))
 
 sub-unstep : tie.Need-sub-unstep Inv-loop μ-loop
-sub-unstep c =
-    let pre = c .before .before .before .before .before .before .before .before .before .pre in
-    let args = c .before .before .before .before .before .before .before .before .before .args in
-    let axes = c .before .before .before .before .before .before .before .axes in
-    let loop = c .before .before .before .before .loop in
-    let the-loop-test = c .before .before .before .loop-test in
-    omega (
-      arith,
-      up-split ((ready-at (axes .ensures) (pre)) .climb) (loop .inv .1 .climbed) (the-loop-test .taken) (loop .inv .0),
-      go-place
-          (some-axes-of (args .dim) _ (axes .ensures)) (the-loop-test .taken) (loop .inv .2) (loop .inv .3) (c .before .place-above .ensures),
-    )
+sub-unstep c = omega (arith, up-split ((ready-at (c .before .before .before .before .before .before .before .axes .ensures) (c .before .before .before .before .before .before .before .before .before .pre)) .climb) (c .before .before .before .before .loop .inv .1 .climbed) (c .before .before .before .loop-test .taken) (c .before .before .before .before .loop .inv .0), go-place (some-axes-of (c .before .before .before .before .before .before .before .before .before .args .dim) _ (c .before .before .before .before .before .before .before .axes .ensures)) (c .before .before .before .loop-test .taken) (c .before .before .before .before .loop .inv .2) (c .before .before .before .before .loop .inv .3) (c .before .place-above .ensures))
 
 unstep-requires : tie.Need-unstep-requires Inv-loop μ-loop
-unstep-requires c κs =
-    let pre = c .before .before .before .before .before .before .before .before .before .pre in
-    let args = c .before .before .before .before .before .before .before .before .before .args in
-    let axes = c .before .before .before .before .before .before .before .axes in
-    let loop = c .before .before .before .before .loop in
-    let the-loop-test = c .before .before .before .loop-test in
-    ready-is (record { first = loop .first; second = loop .second; third = loop .third; fourth = loop .fourth }) _
-    (up-ready ((ready-at (axes .ensures) (pre)) .climb) (loop .inv .1 .climbed) (the-loop-test .taken) (loop .inv .0) _
-    (ap (λ (k : ℕ). k - 1) (go-place (some-axes-of (args .dim) _ (axes .ensures)) (the-loop-test .taken) (loop .inv .2) (loop .inv .3)
-    (c .before .place-above .ensures))))
+unstep-requires c κs = back-ready (record { first = c .before .before .before .before .loop .first; second = c .before .before .before .before .loop .second; third = c .before .before .before .before .loop .third; fourth = c .before .before .before .before .loop .fourth }) _ (up-ready ((ready-at (c .before .before .before .before .before .before .before .axes .ensures) (c .before .before .before .before .before .before .before .before .before .pre)) .climb) (c .before .before .before .before .loop .inv .1 .climbed) (c .before .before .before .loop-test .taken) (c .before .before .before .before .loop .inv .0) _ (ap (λ (k : ℕ). k - 1) (go-place (some-axes-of (c .before .before .before .before .before .before .before .before .before .args .dim) _ (c .before .before .before .before .before .before .before .axes .ensures)) (c .before .before .before .loop-test .taken) (c .before .before .before .before .loop .inv .2) (c .before .before .before .before .loop .inv .3) (c .before .place-above .ensures))))
 
 wide-requires : tie.Need-wide-requires Inv-loop μ-loop
 wide-requires c κs = search needs
 
 mul-start : tie.Need-mul-start Inv-loop μ-loop
-mul-start c =
-    let pre = c .before .before .before .before .before .before .before .before .before .before .before .pre in
-    let args = c .before .before .before .before .before .before .before .before .before .before .before .args in
-    let axes = c .before .before .before .before .before .before .before .before .before .axes in
-    let loop = c .before .before .before .before .before .before .loop in
-    let the-loop-test = c .before .before .before .before .before .loop-test in
-    let boxes-above = c .before .before .before .before .boxes-above in
-    let place-above = c .before .before .before .place-above in
-    let b = step-small (ready-at (axes .ensures) (pre)) (loop .inv .1) (the-loop-test .taken) (loop .inv .0) _ _ _ _
-    (ap (λ (k : ℕ). k - 1) (go-place (some-axes-of (args .dim) _ (axes .ensures)) (the-loop-test .taken) (loop .inv .2) (loop .inv .3) (place-above .ensures)))
-    (own-by (args .code .now) (axes .result) _ _
-    (go-boxes (some-axes-of (args .dim) _ (axes .ensures)) (the-loop-test .taken) (loop .inv .2) (loop .inv .3) (boxes-above .ensures))
-    (c .before .before .own-of .ensures)) (c .before .unstep .ensures) in let h = half-small (ready-at (axes .ensures) (pre)) (loop .inv .1) (the-loop-test .taken)
-    (loop .inv .0) in let q = one-of (c .wide .result) (loop .half) (omega (arith, c .wide .ensures)) h in omega arith
+mul-start c = let b = step-small (ready-at (c .before .before .before .before .before .before .before .before .before .axes .ensures) (c .before .before .before .before .before .before .before .before .before .before .before .pre)) (c .before .before .before .before .before .before .loop .inv .1) (c .before .before .before .before .before .loop-test .taken) (c .before .before .before .before .before .before .loop .inv .0) _ _ _ _ (ap (λ (k : ℕ). k - 1) (go-place (some-axes-of (c .before .before .before .before .before .before .before .before .before .before .before .args .dim) _ (c .before .before .before .before .before .before .before .before .before .axes .ensures)) (c .before .before .before .before .before .loop-test .taken) (c .before .before .before .before .before .before .loop .inv .2) (c .before .before .before .before .before .before .loop .inv .3) (c .before .before .before .place-above .ensures))) (own-by (c .before .before .before .before .before .before .before .before .before .before .before .args .code .now) (c .before .before .before .before .before .before .before .before .before .axes .result) _ _ (go-boxes (some-axes-of (c .before .before .before .before .before .before .before .before .before .before .before .args .dim) _ (c .before .before .before .before .before .before .before .before .before .axes .ensures)) (c .before .before .before .before .before .loop-test .taken) (c .before .before .before .before .before .before .loop .inv .2) (c .before .before .before .before .before .before .loop .inv .3) (c .before .before .before .before .boxes-above .ensures)) (c .before .before .own-of .ensures)) (c .before .unstep .ensures) in let h = half-small (ready-at (c .before .before .before .before .before .before .before .before .before .axes .ensures) (c .before .before .before .before .before .before .before .before .before .before .before .pre)) (c .before .before .before .before .before .before .loop .inv .1) (c .before .before .before .before .before .loop-test .taken) (c .before .before .before .before .before .before .loop .inv .0) in let q = one-of (c .wide .result) (c .before .before .before .before .before .before .loop .half) (omega (arith, c .wide .ensures)) h in omega arith
 
 add-start : tie.Need-add-start Inv-loop μ-loop
-add-start c =
-    let pre = c .before .before .before .before .before .before .before .before .before .before .before .pre in
-    let args = c .before .before .before .before .before .before .before .before .before .before .before .args in
-    let axes = c .before .before .before .before .before .before .before .before .before .axes in
-    let loop = c .before .before .before .before .before .before .loop in
-    let the-loop-test = c .before .before .before .before .before .loop-test in
-    let boxes-above = c .before .before .before .before .boxes-above in
-    let place-above = c .before .before .before .place-above in
-    let b = step-small (ready-at (axes .ensures) (pre)) (loop .inv .1) (the-loop-test .taken) (loop .inv .0) _ _ _ _
-    (ap (λ (k : ℕ). k - 1) (go-place (some-axes-of (args .dim) _ (axes .ensures)) (the-loop-test .taken) (loop .inv .2) (loop .inv .3) (place-above .ensures)))
-    (own-by (args .code .now) (axes .result) _ _
-    (go-boxes (some-axes-of (args .dim) _ (axes .ensures)) (the-loop-test .taken) (loop .inv .2) (loop .inv .3) (boxes-above .ensures))
-    (c .before .before .own-of .ensures)) (c .before .unstep .ensures) in let h = half-small (ready-at (axes .ensures) (pre)) (loop .inv .1) (the-loop-test .taken)
-    (loop .inv .0) in let q = more-of (c .wide .result) (loop .half) (loop .start) (omega (arith, c .wide .ensures)) h (loop .inv .1 .inside) in omega arith
+add-start c = let b = step-small (ready-at (c .before .before .before .before .before .before .before .before .before .axes .ensures) (c .before .before .before .before .before .before .before .before .before .before .before .pre)) (c .before .before .before .before .before .before .loop .inv .1) (c .before .before .before .before .before .loop-test .taken) (c .before .before .before .before .before .before .loop .inv .0) _ _ _ _ (ap (λ (k : ℕ). k - 1) (go-place (some-axes-of (c .before .before .before .before .before .before .before .before .before .before .before .args .dim) _ (c .before .before .before .before .before .before .before .before .before .axes .ensures)) (c .before .before .before .before .before .loop-test .taken) (c .before .before .before .before .before .before .loop .inv .2) (c .before .before .before .before .before .before .loop .inv .3) (c .before .before .before .place-above .ensures))) (own-by (c .before .before .before .before .before .before .before .before .before .before .before .args .code .now) (c .before .before .before .before .before .before .before .before .before .axes .result) _ _ (go-boxes (some-axes-of (c .before .before .before .before .before .before .before .before .before .before .before .args .dim) _ (c .before .before .before .before .before .before .before .before .before .axes .ensures)) (c .before .before .before .before .before .loop-test .taken) (c .before .before .before .before .before .before .loop .inv .2) (c .before .before .before .before .before .before .loop .inv .3) (c .before .before .before .before .boxes-above .ensures)) (c .before .before .own-of .ensures)) (c .before .unstep .ensures) in let h = half-small (ready-at (c .before .before .before .before .before .before .before .before .before .axes .ensures) (c .before .before .before .before .before .before .before .before .before .before .before .pre)) (c .before .before .before .before .before .before .loop .inv .1) (c .before .before .before .before .before .loop-test .taken) (c .before .before .before .before .before .before .loop .inv .0) in let q = more-of (c .wide .result) (c .before .before .before .before .before .before .loop .half) (c .before .before .before .before .before .before .loop .start) (omega (arith, c .wide .ensures)) h (c .before .before .before .before .before .before .loop .inv .1 .inside) in omega arith
 
 mul-half : tie.Need-mul-half Inv-loop μ-loop
-mul-half c =
-    let pre = c .before .before .before .before .before .before .before .before .before .before .before .pre in
-    let axes = c .before .before .before .before .before .before .before .before .before .axes in
-    let loop = c .before .before .before .before .before .before .loop in
-    let the-loop-test = c .before .before .before .before .before .loop-test in
-    let h = half-small (ready-at (axes .ensures) (pre)) (loop .inv .1) (the-loop-test .taken) (loop .inv .0) in omega arith
+mul-half c = let h = half-small (ready-at (c .before .before .before .before .before .before .before .before .before .axes .ensures) (c .before .before .before .before .before .before .before .before .before .before .before .pre)) (c .before .before .before .before .before .before .loop .inv .1) (c .before .before .before .before .before .loop-test .taken) (c .before .before .before .before .before .before .loop .inv .0) in omega arith
 
 loop-less : tie.Need-loop-less Inv-loop μ-loop
 loop-less c = search needs
 
 loop-again : tie.Need-loop-again Inv-loop μ-loop
-loop-again c =
-    let pre = c .before .before .before .before .before .before .before .before .before .before .before .pre in
-    let args = c .before .before .before .before .before .before .before .before .before .before .before .args in
-    let axes = c .before .before .before .before .before .before .before .before .before .axes in
-    let loop = c .before .before .before .before .before .before .loop in
-    let the-loop-test = c .before .before .before .before .before .loop-test in
-    let boxes-above = c .before .before .before .before .boxes-above in
-    let place-above = c .before .before .before .place-above in (
-      omega (arith, loop .inv .0),
-      rw (c .wide .ensures)
-          (walk-next (ready-at (axes .ensures) (pre)) (loop .inv .1) (the-loop-test .taken) (loop .inv .0) _ _ _ _
-          (ap (λ (k : ℕ). k - 1) (go-place (some-axes-of (args .dim) _ (axes .ensures)) (the-loop-test .taken) (loop .inv .2) (loop .inv .3) (place-above .ensures)))
-          (own-by (args .code .now) (axes .result) _ _
-          (go-boxes (some-axes-of (args .dim) _ (axes .ensures)) (the-loop-test .taken) (loop .inv .2) (loop .inv .3) (boxes-above .ensures))
-          (c .before .before .own-of .ensures)) (c .before .unstep .ensures)),
-      go-place (some-axes-of (args .dim) _ (axes .ensures)) (the-loop-test .taken) (loop .inv .2)
-          (loop .inv .3) (place-above .ensures),
-      go-boxes (some-axes-of (args .dim) _ (axes .ensures)) (the-loop-test .taken) (loop .inv .2) (loop .inv .3)
-          (boxes-above .ensures),
-    )
+loop-again c = (omega (arith, c .before .before .before .before .before .before .loop .inv .0), rw (c .wide .ensures) (walk-next (ready-at (c .before .before .before .before .before .before .before .before .before .axes .ensures) (c .before .before .before .before .before .before .before .before .before .before .before .pre)) (c .before .before .before .before .before .before .loop .inv .1) (c .before .before .before .before .before .loop-test .taken) (c .before .before .before .before .before .before .loop .inv .0) _ _ _ _ (ap (λ (k : ℕ). k - 1) (go-place (some-axes-of (c .before .before .before .before .before .before .before .before .before .before .before .args .dim) _ (c .before .before .before .before .before .before .before .before .before .axes .ensures)) (c .before .before .before .before .before .loop-test .taken) (c .before .before .before .before .before .before .loop .inv .2) (c .before .before .before .before .before .before .loop .inv .3) (c .before .before .before .place-above .ensures))) (own-by (c .before .before .before .before .before .before .before .before .before .before .before .args .code .now) (c .before .before .before .before .before .before .before .before .before .axes .result) _ _ (go-boxes (some-axes-of (c .before .before .before .before .before .before .before .before .before .before .before .args .dim) _ (c .before .before .before .before .before .before .before .before .before .axes .ensures)) (c .before .before .before .before .before .loop-test .taken) (c .before .before .before .before .before .before .loop .inv .2) (c .before .before .before .before .before .before .loop .inv .3) (c .before .before .before .before .boxes-above .ensures)) (c .before .before .own-of .ensures)) (c .before .unstep .ensures)), go-place (some-axes-of (c .before .before .before .before .before .before .before .before .before .before .before .args .dim) _ (c .before .before .before .before .before .before .before .before .before .axes .ensures)) (c .before .before .before .before .before .loop-test .taken) (c .before .before .before .before .before .before .loop .inv .2) (c .before .before .before .before .before .before .loop .inv .3) (c .before .before .before .place-above .ensures), go-boxes (some-axes-of (c .before .before .before .before .before .before .before .before .before .before .before .args .dim) _ (c .before .before .before .before .before .before .before .before .before .axes .ensures)) (c .before .before .before .before .before .loop-test .taken) (c .before .before .before .before .before .before .loop .inv .2) (c .before .before .before .before .before .before .loop .inv .3) (c .before .before .before .before .boxes-above .ensures))
 
 returns : tie.Need-returns Inv-loop μ-loop
 returns c = walked-at (c .before .before .before .before .axes .ensures) (walk-done (c .before .loop .t) (omega (arith, c .loop-test .left)) (c .before .loop .inv .1))

@@ -1,12 +1,8 @@
 -- `entry` meets its contract.
-use mathlib.Core.Path.{_≡_, refl, sym, ap, _∙_, subst}
-use Prim.Native.Nat.{ℕ, suc, _+_, _-_, _≤_, _<_}
-use native.Mathlib.Omega.{arith}
-use lib.ListN.{length, getD, take, drop}
-use Rattle.positions.specs.Fours.{entry-is}
+use Rattle.fours.specs.Laws.{entry-is}
 use borrow.Author.Needs.{needs}
-use Rattle.positions.proofs.four.entry.Statement.{statement}
-use Rattle.positions.proofs.four.entry.Tie as tie
+use Rattle.fours.proofs.entry.Statement.{statement}
+use Rattle.fours.proofs.entry.Tie as tie
 
 returns : tie.Need-returns
 returns c = search needs

@@ -1,33 +1,40 @@
--- `entries_of` meets its contract.
-use mathlib.Core.Path.{_≡_, refl, sym, ap, _∙_, subst}
-use Prim.Native.Nat.{ℕ, suc, _+_, _-_, _≤_, _<_}
+-- `entries_of` meets its contract: a place that the dimension lacks reads the first one again, and gives 0.
 use native.Mathlib.Omega.{arith}
-use lib.ListN.{length, getD, take, drop}
-use Rattle.positions.specs.Fours.{kept-under, entries-are}
+use Rattle.entries.specs.Walks.{place-within}
+use Rattle.fours.specs.Laws.{entries-are}
 use borrow.Author.Needs.{needs}
-use Rattle.positions.proofs.four.entries_of.Statement.{statement}
-use Rattle.positions.proofs.four.entries_of.Tie as tie
+use Rattle.fours.proofs.entries_of.Statement.{statement}
+use Rattle.fours.proofs.entries_of.Tie as tie
 
 place-in-requires : tie.Need-place-in-requires
 place-in-requires c κs = search needs
 
 add-third : tie.Need-add-third
-add-third c = omega (arith, c .place-in .ensures, kept-under 2 (c .before .before .args .d) (c .before .before .pre .0), c .before .before .pre .1)
+add-third c =
+    let args = c .before .before .args in
+    let pre = c .before .before .pre in
+    omega (arith, c .place-in .ensures, place-within 2 (args .d) (omega arith), pre .1)
 
 shared-slice-read-third : tie.Need-shared-slice-read-third
-shared-slice-read-third c = omega (arith, c .before .place-in .ensures, kept-under 2 (c .before .before .before .args .d) (c .before .before .before .pre .0), c .before .before .before .pre .2)
+shared-slice-read-third c =
+    let args = c .before .before .before .args in
+    let pre = c .before .before .before .pre in
+    omega (arith, c .before .place-in .ensures, place-within 2 (args .d) (omega arith), pre .2)
 
 place-in-requires-2 : tie.Need-place-in-requires-2
 place-in-requires-2 c κs = search needs
 
 add-fourth : tie.Need-add-fourth
-add-fourth c = omega (arith, c .place-in2 .ensures, kept-under 3 (c .before .before .before .before .args .d) (c .before .before .before .before .pre .0), c .before .before .before .before .pre .1)
+add-fourth c =
+    let args = c .before .before .before .before .args in
+    let pre = c .before .before .before .before .pre in
+    omega (arith, c .place-in2 .ensures, place-within 3 (args .d) (omega arith), pre .1)
 
 shared-slice-read-fourth : tie.Need-shared-slice-read-fourth
 shared-slice-read-fourth c =
     let args = c .before .before .before .before .before .args in
     let pre = c .before .before .before .before .before .pre in
-    omega (arith, c .before .place-in2 .ensures, kept-under 3 (args .d) (pre .0), pre .2)
+    omega (arith, c .before .place-in2 .ensures, place-within 3 (args .d) (omega arith), pre .2)
 
 shared-slice-read-t8 : tie.Need-shared-slice-read-t8
 shared-slice-read-t8 c = search needs
@@ -43,10 +50,10 @@ pick-requires-2 c κs = search needs
 
 returns : tie.Need-returns
 returns c =
-    let args = c .before .before .before .before .before .before .before .before .before .args in
-    let pre = c .before .before .before .before .before .before .before .before .before .pre in
     let place-in = c .before .before .before .before .before .before .before .place-in in
     let place-in2 = c .before .before .before .before .before .place-in2 in
+    let args = c .before .before .before .before .before .before .before .before .before .args in
+    let pre = c .before .before .before .before .before .before .before .before .before .pre in
     rw (c .before .pick .ensures, c .pick2 .ensures, place-in .ensures, place-in2 .ensures) (entries-are (args .code .now) (args .d) (pre .0) (pre .1) (pre .2))
 
 pub entries-of-spec : {M : Type 1} → statement M

@@ -1,13 +1,10 @@
 -- `turned_back` meets its contract.
-use mathlib.Core.Path.{_≡_, refl, sym, ap, _∙_, subst}
-use Prim.Native.Nat.{ℕ, suc, _+_, _-_, _≤_, _<_}
-use native.Mathlib.Omega.{arith}
-use lib.ListN.{length, getD, take, drop}
-use Rattle.bisection.specs.Codes.{axis, negated}
-use Rattle.positions.specs.Fours.{four, turned-is}
+use mathlib.Core.Path.{ap, _∙_}
+use Rattle.bisection.specs.Codes.{negated}
+use Rattle.fours.specs.Laws.{back-is}
 use borrow.Author.Needs.{needs}
-use Rattle.positions.proofs.four.turned_back.Statement.{statement}
-use Rattle.positions.proofs.four.turned_back.Tie as tie
+use Rattle.fours.proofs.turned_back.Statement.{statement}
+use Rattle.fours.proofs.turned_back.Tie as tie
 
 entry-requires : tie.Need-entry-requires
 entry-requires c κs = search needs
@@ -26,12 +23,12 @@ pick-requires-3 c κs = search needs
 
 returns : tie.Need-returns
 returns c =
+    let pick = c .before .before .pick in
     let args = c .before .before .before .before .before .args in
     let pre = c .before .before .before .before .before .pre in
-    let entry = c .before .before .before .before .entry in
     let negate = c .before .before .before .negate in
-    rw (c .before .before .pick .ensures, c .before .pick2 .ensures, c .pick3 .ensures)
-    (turned-is (args .e) (args .n) _ (pre .0) (negate .ensures ∙ ap negated (entry .ensures)))
+    let entry = c .before .before .before .before .entry in
+    rw (pick .ensures, c .before .pick2 .ensures, c .pick3 .ensures) (back-is (args .e) (args .n) _ (pre .0) (negate .ensures ∙ ap negated (entry .ensures)))
 
 pub turned-back-spec : {M : Type 1} → statement M
 turned-back-spec =

@@ -1,0 +1,118 @@
+-- The laws of entries by value: one for each function, and what a turn does to a signed permutation that they hold.
+use mathlib.Core.Path.{_≡_, refl, sym, ap, _∙_, subst}
+use mathlib.Core.Bool.{Bool, true, false, cond}
+use mathlib.Core.List.{List, [], _∷_, _++_}
+use Prim.Native.Nat.{ℕ, zero, suc, _+_, _-_, _≤_, _<_}
+use native.Mathlib.Omega.{arith}
+use native.Mathlib.Nat.{zero-add}
+use lib.Dec.{T, ltb, eqb}
+use lib.ListN.{length, getD, take, drop, length-append, length-drop, List·getD-append}
+use lib.Seq.{paste, take-at}
+use borrow.Author.Tests.{eq-eqb, eqb-true}
+use Rattle.bisection.specs.Codes.{axis, minus, negated, turned, high}
+use Rattle.bisection.specs.Refusals.{sameSign}
+use Rattle.bisection.specs.Theorems.Entries.{Signed, unturned, turned-append, unturned-append, signed-turned, signed-unturned}
+use Rattle.bisection.specs.Theorems.Passing.{unstepped}
+use Rattle.entries.specs.Walks.{placeIn}
+use Rattle.fours.specs.declared.Four.{Four}
+use Rattle.fours.specs.Fours.{four, noEntries, Holds, SameFour, BackIs}
+
+-- the entry that a place has
+pub entry-is : (e : Four) (n : ℕ) → n < 4 → (n ≡ 0 → ⊥) → (n ≡ 1 → ⊥) → (n ≡ 2 → ⊥) → e .fourth ≡ getD (four e) n 0
+entry-is e zero h a b c = absurd (a refl)
+entry-is e (suc zero) h a b c = absurd (b refl)
+entry-is e (suc (suc zero)) h a b c = absurd (c refl)
+entry-is e (suc (suc (suc zero))) h a b c = refl
+entry-is e (suc (suc (suc (suc n)))) h a b c = absurd (omega arith)
+
+abbrev pub fourOf : ℕ → ℕ → ℕ → ℕ → Four
+fourOf a b c d = record { first = a; second = b; third = c; fourth = d }
+
+-- the first n + 1 turned right
+pub back-is : (e : Four) (n first : ℕ) → n < 4 → first ≡ negated (getD (four e) n 0)
+    → four (fourOf first (cond (ltb 0 n) (e .first) (e .second)) (cond (ltb 1 n) (e .second) (e .third)) (cond (ltb 2 n) (e .third) (e .fourth))) ≡ unturned n (four e)
+unfolding unturned
+back-is e zero f h q = ap (λ (x : ℕ). x ∷ e .second ∷ e .third ∷ e .fourth ∷ []) q
+back-is e (suc zero) f h q = ap (λ (x : ℕ). x ∷ e .first ∷ e .third ∷ e .fourth ∷ []) q
+back-is e (suc (suc zero)) f h q = ap (λ (x : ℕ). x ∷ e .first ∷ e .second ∷ e .fourth ∷ []) q
+back-is e (suc (suc (suc zero))) f h q = ap (λ (x : ℕ). x ∷ e .first ∷ e .second ∷ e .third ∷ []) q
+back-is e (suc (suc (suc (suc n)))) f h q = absurd (omega arith)
+
+-- the first n + 1 turned left
+pub on-is : (e : Four) (n m : ℕ) → n < 4 → m ≡ negated (e .first)
+    → four (fourOf (cond (eqb n 0) m (e .second)) (cond (eqb n 1) m (cond (ltb 1 n) (e .third) (e .second)))
+      (cond (eqb n 2) m (cond (ltb 2 n) (e .fourth) (e .third))) (cond (eqb n 3) m (e .fourth))) ≡ turned (suc n) (four e)
+unfolding turned
+on-is e zero m h q = ap (λ (x : ℕ). x ∷ e .second ∷ e .third ∷ e .fourth ∷ []) q
+on-is e (suc zero) m h q = ap (λ (x : ℕ). e .second ∷ x ∷ e .third ∷ e .fourth ∷ []) q
+on-is e (suc (suc zero)) m h q = ap (λ (x : ℕ). e .second ∷ e .third ∷ x ∷ e .fourth ∷ []) q
+on-is e (suc (suc (suc zero))) m h q = ap (λ (x : ℕ). e .second ∷ e .third ∷ e .fourth ∷ x ∷ []) q
+on-is e (suc (suc (suc (suc n)))) m h q = absurd (omega arith)
+
+-- one step up: the entries as they are where the sign is the box's own, turned back where it is not
+pub unstep-is : (e t : Four) (n own : ℕ) (same : Bool) → same ≡ sameSign (minus (getD (four e) n 0)) (high own (axis (getD (four e) n 0))) → four t ≡ unturned n (four e)
+    → BackIs n own (four e) (cond same 0 1)
+      (four (fourOf (cond same (e .first) (t .first)) (cond same (e .second) (t .second)) (cond same (e .third) (t .third)) (cond same (e .fourth) (t .fourth))))
+unfolding unstepped
+unstep-is e t n own true s q = record { step = ap (λ (b : Bool). cond b 0 1) s; entries = refl }
+unstep-is e t n own false s q = record { step = ap (λ (b : Bool). cond b 0 1) s; entries = q }
+
+-- the entries of a code
+pub entries-are : (code : List ℕ) (d : ℕ) → 2 ≤ d → d ≤ 4 → 2 + d ≤ length code
+    → four (fourOf (getD code 2 0) (getD code 3 0) (cond (ltb 2 d) (getD code (2 + placeIn 2 d) 0) 0) (cond (ltb 3 d) (getD code (2 + placeIn 3 d) 0) 0)) ≡ paste noEntries 0 (drop 2 code) d
+entries-are (x ∷ y ∷ a ∷ b ∷ code) (suc (suc zero)) l h r = refl
+entries-are (x ∷ y ∷ a ∷ b ∷ c ∷ code) (suc (suc (suc zero))) l h r = refl
+entries-are (x ∷ y ∷ a ∷ b ∷ c ∷ e ∷ code) (suc (suc (suc (suc zero)))) l h r = refl
+entries-are [] d l h r = absurd (omega arith)
+entries-are (x ∷ []) d l h r = absurd (omega arith)
+entries-are (x ∷ (y ∷ [])) d l h r = absurd (omega arith)
+entries-are (x ∷ (y ∷ (a ∷ []))) d l h r = absurd (omega arith)
+entries-are (x ∷ (y ∷ (a ∷ (b ∷ _)))) zero l h r = absurd (omega arith)
+entries-are (x ∷ (y ∷ (a ∷ (b ∷ _)))) (suc zero) l h r = absurd (omega arith)
+entries-are (x ∷ (y ∷ (a ∷ (b ∷ [])))) (suc (suc (suc d))) l h r = absurd (omega arith)
+entries-are (x ∷ (y ∷ (a ∷ (b ∷ (c ∷ []))))) (suc (suc (suc (suc d)))) l h r = absurd (omega arith)
+entries-are (x ∷ (y ∷ (a ∷ (b ∷ (c ∷ (e ∷ code)))))) (suc (suc (suc (suc (suc d))))) l h r = absurd (omega arith)
+
+-- the same entries
+pub same-not : (a b : Four) (i : ℕ) → (getD (four a) i 0 ≡ getD (four b) i 0 → ⊥) → SameFour a b false
+same-not a b i n = record { equal = λ e. absurd (subst T (sym e) tt); told = λ e. absurd (n (ap (λ (l : List ℕ). getD l i 0) e)) }
+
+pub same-last : (a b : Four) → a .first ≡ b .first → a .second ≡ b .second → a .third ≡ b .third → SameFour a b (eqb (a .fourth) (b .fourth))
+same-last a b e f g = record {
+  equal = λ h. rw (e, f, g, eqb-true (a .fourth) (b .fourth) h) refl;
+  told = λ h. eq-eqb (a .fourth) (b .fourth) (ap (λ (l : List ℕ). getD l 3 0) h);
+}
+
+-- entries that hold a signed permutation
+module _ {d : ℕ} {e : Four} {es : List ℕ} (h : Holds d e es) where
+  pub held-few : d ≤ 4
+  held-few = omega (arith, ap length (h .is), length-append es (drop d noEntries), length-drop d noEntries, h .signed .size)
+
+  small : d < 128
+  small = omega (arith, held-few)
+
+  pub held-at : (n : ℕ) → n < d → getD (four e) n 0 ≡ getD es n 0
+  held-at n l = ap (λ (l : List ℕ). getD l n 0) (h .is) ∙ List·getD-append es (drop d noEntries) 0 n (omega (arith, h .signed .size))
+
+  pub held-axis : (n : ℕ) → n < d → 1 ≤ axis (getD (four e) n 0)
+  held-axis n l = rw (held-at n l) (h .signed .low n l)
+
+  pub held-front : take d (four e) ≡ es
+  held-front = ap (take d) (h .is) ∙ take-at es (drop d noEntries) d (h .signed .size)
+
+  module _ (r : Four) (n : ℕ) (l : n < d) where
+    room : n < length es
+    room = omega (arith, h .signed .size)
+
+    pub held-turned : four r ≡ turned (suc n) (four e) → Holds d r (turned (suc n) es)
+    held-turned q = record { signed = signed-turned (h .signed) n l small; is = q ∙ ap (turned (suc n)) (h .is) ∙ turned-append (suc n) es (drop d noEntries) (omega arith) (omega (arith, room)) }
+
+    pub held-unturned : four r ≡ unturned n (four e) → Holds d r (unturned n es)
+    held-unturned q = record { signed = signed-unturned (h .signed) n l small; is = q ∙ ap (unturned n) (h .is) ∙ unturned-append n es (drop d noEntries) room }
+
+  -- the same entries hold the same, and those of a code what it has
+  pub held-same : {x : Four} {xs : List ℕ} → four x ≡ xs ++ drop d noEntries → length xs ≡ d → four x ≡ four e → xs ≡ es
+  held-same {x} {xs} q size f = sym (take-at xs (drop d noEntries) d size) ∙ ap (take d) (sym q ∙ f) ∙ held-front
+
+pub pasted : (l : List ℕ) (d : ℕ) → paste noEntries 0 l d ≡ take d l ++ drop d noEntries
+pasted l d = ap (λ (n : ℕ). take d l ++ drop n noEntries) (zero-add d)

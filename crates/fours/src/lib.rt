@@ -1,0 +1,149 @@
+// Entries by value: four named entries. A dimension with fewer axes leaves the last ones 0. Nothing here branches on a place
+// or on an entry: which step comes is not foreseen, and a branch on it costs more than both sides.
+ghost use mathlib.Core.Path.{_≡_};
+ghost use mathlib.Core.Bool.{cond};
+ghost use Prim.Native.Nat.{suc, _+_, _≤_, _<_};
+ghost use lib.ListN.{length, getD, drop};
+ghost use lib.Seq.{paste};
+ghost use Rattle.bisection.specs.Codes.{axis, turned};
+ghost use Rattle.bisection.specs.Theorems.Entries.{unturned};
+ghost use Rattle.fours.specs.Fours.{four, noEntries, partOf, SameFour, BackIs, OwnIs};
+use entries::check;
+
+pub struct Four {
+    pub first: u8,
+    pub second: u8,
+    pub third: u8,
+    pub fourth: u8,
+}
+
+// The entries one step up, and the step.
+pub struct Back {
+    pub before: Four,
+    pub step: u8,
+}
+
+// One of two bytes.
+pub fn pick(b: bool, x: u8, y: u8) -> u8
+    ensures { λ r. ⌜ r ≡ cond b x y ⌝ }
+{
+    if b {
+        return x;
+    }
+    y
+}
+
+// The entry at a place.
+fn entry(e: Four, n: usize) -> u8
+    requires { ⌜ n < 4 ⌝ }
+    ensures { λ r. ⌜ r ≡ getD (four e) n 0 ⌝ }
+{
+    match n {
+        0 => e.first,
+        1 => e.second,
+        2 => e.third,
+        _ => e.fourth,
+    }
+}
+
+// The entries of a code.
+pub fn entries_of(code: &[u8], d: usize) -> Four
+    requires { ⌜ (2 ≤ d) × (d ≤ 4) × (2 + d ≤ length (now code)) ⌝ }
+    ensures { λ r. ⌜ four r ≡ paste noEntries 0 (drop 2 (now (code .entry))) d ⌝ }
+{
+    let third = code[2 + check::place_in(2, d)];
+    let fourth = code[2 + check::place_in(3, d)];
+    Four {
+        first: code[2],
+        second: code[3],
+        third: pick(2 < d, third, 0),
+        fourth: pick(3 < d, fourth, 0),
+    }
+}
+
+// The entries are the same, one by one.
+pub fn same(a: Four, b: Four) -> bool
+    ensures { λ r. ⌜ SameFour a b r ⌝ }
+{
+    if a.first != b.first {
+        return false;
+    }
+    if a.second != b.second {
+        return false;
+    }
+    if a.third != b.third {
+        return false;
+    }
+    a.fourth == b.fourth
+}
+
+// The first n + 1 entries turned left by one place, the one that comes to place n negated.
+pub fn turned_on(e: Four, n: usize) -> Four
+    requires { ⌜ (n < 4) × (1 ≤ axis (e .first)) ⌝ }
+    ensures { λ r. ⌜ four r ≡ turned (suc n) (four e) ⌝ }
+{
+    let moved = entries::negate(e.first);
+    let first = pick(n == 0, moved, e.second);
+    let second = pick(n == 1, moved, pick(1 < n, e.third, e.second));
+    let third = pick(n == 2, moved, pick(2 < n, e.fourth, e.third));
+    let fourth = pick(n == 3, moved, e.fourth);
+    Four {
+        first,
+        second,
+        third,
+        fourth,
+    }
+}
+
+// The first n + 1 entries turned right by one place, the one that comes to the first place negated.
+pub fn turned_back(e: Four, n: usize) -> Four
+    requires { ⌜ (n < 4) × (1 ≤ axis (getD (four e) n 0)) ⌝ }
+    ensures { λ r. ⌜ four r ≡ unturned n (four e) ⌝ }
+{
+    let first = entries::negate(entry(e, n));
+    let second = pick(0 < n, e.first, e.second);
+    let third = pick(1 < n, e.second, e.third);
+    let fourth = pick(2 < n, e.third, e.fourth);
+    Four {
+        first,
+        second,
+        third,
+        fourth,
+    }
+}
+
+// Takes back the last step: entry n tells it by its sign against the parent's box.
+pub fn unstep(e: Four, n: usize, own: u8) -> Back
+    requires { ⌜ (n < 4) × (1 ≤ axis (getD (four e) n 0)) × (axis (getD (four e) n 0) ≤ 8) ⌝ }
+    ensures { λ r. ⌜ BackIs n own (four e) (r .step) (four (r .before)) ⌝ }
+{
+    let same = check::same_sign(entry(e, n), own);
+    let turned = turned_back(e, n);
+    let first = pick(same, e.first, turned.first);
+    let second = pick(same, e.second, turned.second);
+    let third = pick(same, e.third, turned.third);
+    let fourth = pick(same, e.fourth, turned.fourth);
+    Back {
+        before: Four {
+            first,
+            second,
+            third,
+            fourth,
+        },
+        step: pick(same, 0, 1),
+    }
+}
+
+// An entry's part in an orthant: high on its axis where it has a minus.
+fn part_of(e: u8) -> u8
+    ensures { λ r. ⌜ r ≡ partOf e ⌝ }
+{
+    pick(entries::is_minus(e), entries::mark_of(e), 0)
+}
+
+// The orthant that the entries give.
+pub fn own_of(e: Four) -> u8
+    ensures { λ r. ⌜ OwnIs e r ⌝ }
+{
+    part_of(e.fourth) | part_of(e.third) | part_of(e.second) | part_of(e.first)
+}
