@@ -20,14 +20,14 @@ pub struct Position {
 }
 
 // Two to a power.
-fn power(n: usize) -> u64
+pub fn power(n: usize) -> u64
     requires { ⌜ n ≤ 60 ⌝ }
     ensures { λ r. ⌜ r ≡ 2 ^ n ⌝ }
 {
     1 << n
 }
 
-fn wide(x: u8) -> u64
+pub fn wide(x: u8) -> u64
     ensures { λ r. ⌜ r ≡ x ⌝ }
 {
     x as u64

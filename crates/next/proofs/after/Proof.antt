@@ -1,0 +1,107 @@
+-- `after` meets its contract.
+use mathlib.Core.Path.{sym, ap, _∙_, subst}
+use native.Mathlib.Omega.{arith}
+use Rattle.next.specs.Going.{after-above, after-short, after-path, after-climb, after-over, after-number, after-place, after-turn, after-fill, after-on}
+use borrow.Author.Needs.{needs}
+use Rattle.next.proofs.after.Statement.{statement}
+use Rattle.next.proofs.after.Tie as tie
+
+sub-power : tie.Need-sub-power
+sub-power c = let above = after-above (c .before .pre) in omega arith
+
+power-requires : tie.Need-power-requires
+power-requires c κs = after-short (c .before .pre)
+
+mul-path : tie.Need-mul-path
+mul-path c =
+    let pre = c .before .before .before .pre in
+    record { fits = after-path (pre) _ (c .before .power .ensures) }
+
+climb-requires : tie.Need-climb-requires
+climb-requires c κs =
+    let pre = c .before .before .before .pre in
+    after-climb (pre) _ (c .before .power .ensures)
+
+returns : tie.Need-returns
+returns c =
+    let pre = c .before .before .before .before .before .before .pre in
+    let power = c .before .before .before .before .power in
+    let climb = c .before .before .climb in
+    after-over (pre) _ (power .ensures) _ (climb .ensures) (c .if1 .taken) _
+
+sub-above : tie.Need-sub-above
+sub-above c = search needs
+
+split-place-requires : tie.Need-split-place-requires
+split-place-requires c κs = search needs
+
+sub-turned-on : tie.Need-sub-turned-on
+sub-turned-on c =
+    let pre = c .before .before .before .before .before .before .before .before .pre in
+    let power = c .before .before .before .before .before .before .power in
+    let climb = c .before .before .before .before .climb in
+    let if1 = c .before .before .if1 in
+    after-place (pre) _ (power .ensures) _ (climb .ensures) (if1 .left) _ (c .split-place .ensures)
+
+turned-on-requires : tie.Need-turned-on-requires
+turned-on-requires c κs =
+    let pre = c .before .before .before .before .before .before .before .before .pre in
+    let power = c .before .before .before .before .before .before .power in
+    let climb = c .before .before .before .before .climb in
+    let if1 = c .before .before .if1 in
+    after-turn (pre) _ (power .ensures) _ (climb .ensures) (if1 .left) _ (c .split-place .ensures)
+
+box-depth-requires : tie.Need-box-depth-requires
+box-depth-requires c κs = search needs
+
+own-of-requires : tie.Need-own-of-requires
+own-of-requires c κs = search needs
+
+filled-requires : tie.Need-filled-requires
+filled-requires c κs =
+    let pre = c .before .before .before .before .before .before .before .before .before .before .before .pre in
+    let power = c .before .before .before .before .before .before .before .before .before .power in
+    let climb = c .before .before .before .before .before .before .before .climb in
+    let if1 = c .before .before .before .before .before .if1 in
+    let split-place = c .before .before .before .split-place in
+    let turned-on = c .before .before .turned-on in
+    after-fill (pre) _ (power .ensures) _ (climb .ensures) (if1 .left) _ (split-place .ensures) _ (turned-on .ensures) _ (c .own-of .ensures) _ (c .before .box-depth .ensures)
+
+add-t9 : tie.Need-add-t9
+add-t9 c =
+    let pre = c .before .before .before .before .before .before .before .before .before .before .before .before .before .pre in
+    let power = c .before .before .before .before .before .before .before .before .before .before .before .power in
+    let climb = c .before .before .before .before .before .before .before .before .before .climb in
+    let if1 = c .before .before .before .before .before .before .before .if1 in
+    record { fits = after-number (pre) _ (power .ensures) _ (climb .ensures) (if1 .left) }
+
+returns-2 : tie.Need-returns-2
+returns-2 c =
+    let pre = c .before .before .before .before .before .before .before .before .before .before .before .before .before .pre in
+    let power = c .before .before .before .before .before .before .before .before .before .before .before .power in
+    let climb = c .before .before .before .before .before .before .before .before .before .climb in
+    let if1 = c .before .before .before .before .before .before .before .if1 in
+    let split-place = c .before .before .before .before .before .split-place in
+    let turned-on = c .before .before .before .before .turned-on in
+    let own-of = c .before .before .own-of in
+    let box-depth = c .before .before .before .box-depth in
+    after-on (pre) _ (power .ensures) _ (climb .ensures) (if1 .left) _ (split-place .ensures) _ (turned-on .ensures) _ (own-of .ensures) _ (box-depth .ensures) _ (c .before .filled .ensures)
+
+pub after-spec : {M : Type 1} → statement M
+after-spec =
+    tie.close
+    (tie.spec
+    sub-power
+    power-requires
+    mul-path
+    climb-requires
+    returns
+    sub-above
+    split-place-requires
+    sub-turned-on
+    turned-on-requires
+    box-depth-requires
+    own-of-requires
+    filled-requires
+    add-t9
+    returns-2)

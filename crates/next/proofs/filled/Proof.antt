@@ -1,0 +1,61 @@
+-- `filled` meets its contract.
+use mathlib.Core.Path.{sym, ap}
+use native.Mathlib.Omega.{arith}
+use Prim.Native.Nat.{ℕ}
+use Rattle.next.specs.Digits.{fill-places, fill-some, fill-high, fill-low, fill-is}
+use borrow.Author.Needs.{needs}
+use Rattle.next.proofs.filled.Statement.{statement}
+use Rattle.next.proofs.filled.Tie as tie
+
+mul-power : tie.Need-mul-power
+mul-power c = let few = fill-places (c .args .from) (c .args .own) (c .pre .0) (c .pre .1) in omega arith
+
+power-requires : tie.Need-power-requires
+power-requires c κs = fill-places (c .args .from) (c .args .own) (c .pre .0) (c .pre .1)
+
+rem-result : tie.Need-rem-result
+rem-result c = fill-some (c .before .args .from) (c .before .args .own) (c .before .pre .0) (c .before .pre .1) _ (c .power .ensures)
+
+wide-requires : tie.Need-wide-requires
+wide-requires c κs = search needs
+
+mul-result : tie.Need-mul-result
+mul-result c = search needs
+
+div-result : tie.Need-div-result
+div-result c =
+    let args = c .before .before .args in
+    let pre = c .before .before .pre in
+    fill-some (args .from) (args .own) (pre .0) (pre .1) _ (c .before .power .ensures)
+
+mul-result-2 : tie.Need-mul-result-2
+mul-result-2 c =
+    let args = c .before .before .args in
+    let pre = c .before .before .pre in
+    record { fits = rw (c .wide .ensures) (omega (arith, fill-high (args .from) (args .own) (pre .0) (pre .1) _ (c .before .power .ensures))) }
+
+add-result : tie.Need-add-result
+add-result c =
+    let args = c .before .before .args in
+    let pre = c .before .before .pre in
+    record { fits = rw (c .wide .ensures) (omega (arith, fill-high (args .from) (args .own) (pre .0) (pre .1) _ (c .before .power .ensures), fill-low (args .from) (args .own) (pre .0) (pre .1) _ (c .before .power .ensures) (args .boxes))) }
+
+returns : tie.Need-returns
+returns c =
+    let args = c .before .before .args in
+    let pre = c .before .before .pre in
+    rw (c .wide .ensures) (fill-is (args .from) (args .own) (pre .0) (pre .1) _ (c .before .power .ensures) (args .boxes))
+
+pub filled-spec : {M : Type 1} → statement M
+filled-spec =
+    tie.close
+    (tie.spec
+    mul-power
+    power-requires
+    rem-result
+    wide-requires
+    mul-result
+    div-result
+    mul-result-2
+    add-result
+    returns)

@@ -1,0 +1,65 @@
+-- `same_boxes` meets its contract. The loop keeps: all are the same exactly where the rest is.
+use mathlib.Core.Path.{sym, _∙_}
+use Prim.Native.Nat.{_-_}
+use native.Mathlib.Omega.{arith}
+use Rattle.next.specs.Digits.{Comparing, comparing-start, comparing-on, compared-not, compared}
+use borrow.Author.Needs.{needs}
+use Rattle.next.proofs.same_boxes.Statement.{statement}
+use Rattle.next.proofs.same_boxes.Tie as tie
+
+abbrev Inv-loop : tie.InvT-loop
+Inv-loop bytes at n boxes left₀ i₀ left i = Comparing n at bytes boxes i left
+
+abbrev μ-loop : tie.MeasureT-loop
+μ-loop bytes at n boxes left₀ i₀ left i = n - i
+
+loop-holds : tie.Need-loop-holds Inv-loop μ-loop
+loop-holds c = comparing-start _ _ _ _
+
+add-wide : tie.Need-add-wide Inv-loop μ-loop
+add-wide c = search needs
+
+shared-slice-read-wide : tie.Need-shared-slice-read-wide Inv-loop μ-loop
+shared-slice-read-wide c = search needs
+
+wide-requires : tie.Need-wide-requires Inv-loop μ-loop
+wide-requires c κs = search needs
+
+returns : tie.Need-returns Inv-loop μ-loop
+returns c =
+    let loop = c .before .before .before .before .loop in
+    let loop-test = c .before .before .before .loop-test in
+    let pre = c .before .before .before .before .before .before .pre in
+    compared-not (loop .inv) (loop-test .taken) (pre) (λ q. c .if1 .taken (c .before .wide .ensures ∙ q))
+
+add-i : tie.Need-add-i Inv-loop μ-loop
+add-i c = search needs
+
+loop-less : tie.Need-loop-less Inv-loop μ-loop
+loop-less c = search needs
+
+loop-again : tie.Need-loop-again Inv-loop μ-loop
+loop-again c =
+    let loop = c .before .before .before .before .loop in
+    let loop-test = c .before .before .before .loop-test in
+    let pre = c .before .before .before .before .before .before .pre in
+    comparing-on (loop .inv) (loop-test .taken) (pre) (sym (c .before .wide .ensures) ∙ c .if1 .left)
+
+returns-2 : tie.Need-returns-2 Inv-loop μ-loop
+returns-2 c = compared (c .before .loop .inv) (c .loop-test .left)
+
+pub same-boxes-spec : {M : Type 1} → statement M
+same-boxes-spec =
+    tie.close
+    (tie.spec
+    Inv-loop
+    μ-loop
+    loop-holds
+    add-wide
+    shared-slice-read-wide
+    wide-requires
+    returns
+    add-i
+    loop-less
+    loop-again
+    returns-2)

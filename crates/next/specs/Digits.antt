@@ -1,0 +1,163 @@
+-- Orthants as the digits of a number, base 16, the first one lowest: compared with bytes, and filled up from a place on.
+use mathlib.Core.Path.{_≡_, refl, sym, ap, _∙_, subst}
+use mathlib.Core.Bool.{Bool, true, false}
+use mathlib.Core.List.{List, [], _∷_, _++_}
+use mathlib.Core.Logic.{_≢_}
+use Prim.Native.Nat.{ℕ, zero, suc, _+_, _-_, _*_, _/_, _%_, _^_, _≤_, _<_}
+use native.Mathlib.Omega.{arith}
+use native.Mathlib.Nat.{mul-assoc, add-mul, mul-one, zero-add, div-one, mod-one, suc-add, mod-lt, div-mul-le-self, pow-le-pow-right}
+use lib.Dec.{T}
+use lib.ListN.{length, getD, take, drop, replicate}
+use lib.Pow.{pow-add, pow-pos, shr-shr, high, low, mod-pow-add}
+use lib.Seq.{drop-cons}
+use Rattle.dimension.specs.Sizes.{halvings}
+use Rattle.dimension.specs.Laws.{halvings-few}
+
+unfoldable pub digits : ℕ → ℕ → List ℕ
+digits zero w = []
+digits (suc n) w = w % 16 ∷ digits n (w / 16)
+
+pub record SameDigits (n : ℕ) (bs : List ℕ) (w : ℕ) (r : Bool) : Type 0 where
+  pub equal : r ≡ true → bs ≡ digits n w
+  pub told : bs ≡ digits n w → r ≡ true
+
+-- the comparison under way: all n are the same exactly where those from place i on are
+pub record Comparing (n at : ℕ) (bs : List ℕ) (w i left : ℕ) : Type 0 where
+  pub few : i ≤ n
+  pub on : take n (drop at bs) ≡ digits n w → take (n - i) (drop (at + i) bs) ≡ digits (n - i) left
+  pub back : take (n - i) (drop (at + i) bs) ≡ digits (n - i) left → take n (drop at bs) ≡ digits n w
+
+pub comparing-start : (n at : ℕ) (bs : List ℕ) (w : ℕ) → Comparing n at bs w 0 w
+comparing-start n at bs w =
+    let a : at + 0 ≡ at = omega arith in
+    let b : n - 0 ≡ n = omega arith in
+    record { few = omega arith; on = λ e. rw (a, b) e; back = λ e. rw (a, b) at e }
+
+module _ {n at : ℕ} {bs : List ℕ} {w i left : ℕ} (c : Comparing n at bs w i left) where
+  pub compared : n ≤ i → SameDigits n (take n (drop at bs)) w true
+  unfolding digits
+  compared h = let none : n - i ≡ 0 = omega arith in record { equal = λ e. c .back (rw none refl); told = λ e. refl }
+
+  module _ (h : i < n) (room : at + n ≤ length bs) where
+    split : take (n - i) (drop (at + i) bs) ≡ getD bs (at + i) 0 ∷ take (n - (i + 1)) (drop (at + (i + 1)) bs)
+    split = rw (more, drop-cons bs (at + i) 0 (omega arith), next) refl
+      where
+        more : n - i ≡ suc (n - (i + 1))
+        more = omega arith
+
+        next : at + (i + 1) ≡ suc (at + i)
+        next = omega arith
+
+    digits-split : digits (n - i) left ≡ left % 16 ∷ digits (n - (i + 1)) (left / 16)
+    unfolding digits
+    digits-split = let more : n - i ≡ suc (n - (i + 1)) = omega arith in rw more refl
+
+    pub compared-not : getD bs (at + i) 0 ≢ left % 16 → SameDigits n (take n (drop at bs)) w false
+    compared-not q = record { equal = λ e. absurd (subst T (sym e) tt); told = λ e. absurd (q (ap (λ (l : List ℕ). getD l 0 0) (sym split ∙ c .on e ∙ digits-split))) }
+
+    pub comparing-on : getD bs (at + i) 0 ≡ left % 16 → Comparing n at bs w (i + 1) (left / 16)
+    comparing-on q = record {
+      few = omega arith;
+      on = λ e. ap (drop 1) (sym split ∙ c .on e ∙ digits-split);
+      back = λ e. c .back (split ∙ rw (q, e) (sym digits-split));
+    }
+
+pub digits-take : (m n w : ℕ) → m ≤ n → digits m w ≡ take m (digits n w)
+unfolding digits
+digits-take zero n w h = refl
+digits-take (suc m) zero w h = absurd (omega arith)
+digits-take (suc m) (suc n) w h = ap (λ (l : List ℕ). w % 16 ∷ l) (digits-take m n (w / 16) (omega arith))
+
+pub digits-none : (n : ℕ) → digits n 0 ≡ replicate n 0
+unfolding digits
+digits-none zero = refl
+digits-none (suc n) = ap (λ (l : List ℕ). 0 ∷ l) (digits-none n)
+
+-- the number whose n digits are all 1, and all another digit
+unfoldable ones : ℕ → ℕ
+ones zero = 0
+ones (suc n) = 16 * ones n + 1
+
+ones-are : 0x111111111111 ≡ ones halvings
+unfolding ones halvings
+ones-are = refl
+
+head-digit : (n x y : ℕ) → y < 16 → digits (suc n) (x * 16 + y) ≡ y ∷ digits n x
+unfolding digits
+head-digit n x y h = rw (low x 4 h, high x 4 h) refl
+
+digits-own : (n o : ℕ) → o < 16 → digits n (ones n * o) ≡ replicate n o
+unfolding digits ones
+digits-own zero o h = refl
+digits-own (suc n) o h = ap (digits (suc n)) split ∙ head-digit n (ones n * o) o h ∙ ap (λ (l : List ℕ). o ∷ l) (digits-own n o h)
+  where
+    split : (16 * ones n + 1) * o ≡ (ones n * o) * 16 + o
+    split = add-mul (16 * ones n) 1 o ∙ rw (mul-assoc 16 (ones n) o) (omega arith)
+
+four-more : (f : ℕ) → 4 * suc f ≡ 4 * f + 4
+four-more f = omega arith
+
+-- the digits from place f on
+digits-drop : (f n w : ℕ) → digits n (w / 2 ^ (4 * f)) ≡ drop f (digits (f + n) w)
+unfolding digits
+digits-drop zero n w = ap (digits n) (div-one w) ∙ ap (λ (m : ℕ). digits m w) (sym (zero-add n))
+digits-drop (suc f) n w =
+    ap (digits n) (ap (λ (m : ℕ). w / 2 ^ m) flip ∙ sym (shr-shr w 4 (4 * f)))
+    ∙ digits-drop f n (w / 16)
+    ∙ ap (λ (m : ℕ). drop (suc f) (digits m w)) (sym (suc-add f n))
+  where
+    flip : 4 * suc f ≡ 4 + 4 * f
+    flip = omega arith
+
+-- the first f digits of one number, and then those of another
+digits-join : (f n x y : ℕ) → digits (f + n) (x % 2 ^ (4 * f) + y * 2 ^ (4 * f)) ≡ digits f x ++ digits n y
+unfolding digits
+digits-join zero n x y =
+    let a : x % 1 + y * 1 ≡ y = rw (mod-one, mul-one) (zero-add y) in
+    rw a (ap (λ (m : ℕ). digits m y) (zero-add n))
+digits-join (suc f) n x y =
+    ap (λ (m : ℕ). digits m (x % 2 ^ (4 * suc f) + y * 2 ^ (4 * suc f))) (suc-add f n)
+    ∙ ap (digits (suc (f + n))) parts
+    ∙ head-digit (f + n) (x / 16 % 2 ^ (4 * f) + y * 2 ^ (4 * f)) (x % 16) (mod-lt x (omega arith))
+    ∙ ap (λ (l : List ℕ). x % 16 ∷ l) (digits-join f n (x / 16) y)
+  where
+    first : x % 2 ^ (4 * suc f) ≡ (x / 16 % 2 ^ (4 * f)) * 16 + x % 16
+    first = ap (λ (m : ℕ). x % 2 ^ m) (four-more f) ∙ mod-pow-add x (4 * f) 4
+
+    second : y * 2 ^ (4 * suc f) ≡ (y * 2 ^ (4 * f)) * 16
+    second = ap (λ (m : ℕ). y * 2 ^ m) (four-more f) ∙ ap (λ (m : ℕ). y * m) (pow-add 2 (4 * f) 4) ∙ sym (mul-assoc y (2 ^ (4 * f)) 16)
+
+    parts : x % 2 ^ (4 * suc f) + y * 2 ^ (4 * suc f) ≡ (x / 16 % 2 ^ (4 * f) + y * 2 ^ (4 * f)) * 16 + x % 16
+    parts = rw (first, second) (omega arith)
+
+drop-again : (f n o : ℕ) → drop f (replicate (f + n) o) ≡ replicate n o
+drop-again zero n o = ap (λ (m : ℕ). replicate m o) (zero-add n)
+drop-again (suc f) n o = ap (λ (m : ℕ). drop (suc f) (replicate m o)) (suc-add f n) ∙ drop-again f n o
+
+-- the laws of `filled`
+module _ (f o : ℕ) (h : f ≤ halvings) (small : o < 16) where
+  pub fill-places : 4 * f ≤ 60
+  fill-places = omega (arith, halvings-few)
+
+  module _ (p : ℕ) (p-is : p ≡ 2 ^ (4 * f)) where
+    pub fill-some : 0 < p
+    fill-some = rw p-is (pow-pos (4 * f))
+
+    pub fill-high : 0x111111111111 * o / p * p < 2 ^ 60
+    fill-high = omega (arith, div-mul-le-self (0x111111111111 * o) p)
+
+    pub fill-low : (boxes : ℕ) → boxes % p < 2 ^ 61
+    fill-low boxes = rw p-is (omega (arith, mod-lt boxes {m = 2 ^ (4 * f)} (pow-pos (4 * f)), pow-le-pow-right {n = 2} (omega arith) {i = 4 * f} {j = 60} fill-places))
+
+    pub fill-is : (boxes : ℕ) → digits halvings (boxes % p + 0x111111111111 * o / p * p) ≡ take f (digits halvings boxes) ++ replicate (halvings - f) o
+    fill-is boxes =
+        rw (p-is, ones-are) refl
+        ∙ ap (λ (m : ℕ). digits m (boxes % 2 ^ (4 * f) + ones halvings * o / 2 ^ (4 * f) * 2 ^ (4 * f))) (sym left)
+        ∙ digits-join f (halvings - f) boxes (ones halvings * o / 2 ^ (4 * f))
+        ∙ rw (digits-take f halvings boxes h, digits-drop f (halvings - f) (ones halvings * o), left, digits-own halvings o small) (ap (λ (l : List ℕ). take f (digits halvings boxes) ++ l) again)
+      where
+        left : f + (halvings - f) ≡ halvings
+        left = omega arith
+
+        again : drop f (replicate halvings o) ≡ replicate (halvings - f) o
+        again = ap (λ (m : ℕ). drop f (replicate m o)) (sym left) ∙ drop-again f (halvings - f) o

@@ -1,0 +1,189 @@
+// The next cell, kept as a code. After a leaf the next one is known before it is read: its bytes are those of the next cell, or
+// of the first one inside it at some depth. It belongs to the code layer: what stands above it sees neither a path nor a byte of
+// a code. A first cell inside has the same entries, and the front of the same orthants: so these are kept for all depths.
+mod roots; // roots.rt: the roots in dictionary order
+
+ghost use mathlib.Core.Path.{_≡_};
+ghost use mathlib.Core.List.{_++_};
+ghost use Prim.Native.Nat.{_+_, _-_, _≤_, _<_};
+ghost use lib.ListN.{length, take, drop, replicate};
+ghost use Rattle.dimension.specs.Sizes.{axesOf, halvings};
+ghost use Rattle.next.specs.Digits.{digits, SameDigits};
+ghost use Rattle.next.specs.Nexts.{MatchIs, ClimbReady, UpIs, AfterReady, AfterIs, FirstIs};
+use dimension::Dim;
+use entries::check;
+use fours::Four;
+
+// The number whose digits, base 16, are all 1: as many as there are halvings.
+const ONES: u64 = 0x1111_1111_1111;
+
+// The cell of a root and a path: its entries; the orthants of the first cell of greatest depth inside it, as digits base 16, the
+// first one lowest; its depth; and its path as a number, the first step highest.
+pub struct Next {
+    pub entries: Four,
+    pub boxes: u64,
+    pub depth: usize,
+    pub path: u64,
+}
+
+// The code of the next cell, or of the first one inside it: its length, 0 where bytes do not begin with one, and its depth.
+pub struct Match {
+    pub length: usize,
+    pub depth: usize,
+}
+
+// The n bytes from a place on are the first n digits of a number.
+fn same_boxes(bytes: &[u8], at: usize, n: usize, boxes: u64) -> bool
+    requires { ⌜ at + n ≤ length (now bytes) ⌝ }
+    ensures { λ r. ⌜ SameDigits n (take n (drop at (now (bytes .entry)))) boxes r ⌝ }
+{
+    let mut left = boxes;
+    let mut i: usize = 0;
+    while i < n {
+        if positions::wide(bytes[at + i]) != left % 16 {
+            return false;
+        }
+        left = left / 16;
+        i += 1;
+    }
+    true
+}
+
+// Whether the bytes begin with the code of the next cell, or of the first one inside it at the depth that they name.
+pub fn matches(next: Next, dim: Dim, bytes: &[u8]) -> Match
+    requires { ⌜ 2 ≤ length (now bytes) ⌝ }
+    ensures { λ r. ⌜ MatchIs (axesOf dim) next (now (bytes .entry)) r ⌝ }
+{
+    let none = Match { length: 0, depth: 0 };
+    let axes = dim.axes();
+    let depth = common::size(bytes[1]);
+    if common::size(bytes[0]) != axes {
+        return none;
+    }
+    if depth < next.depth {
+        return none;
+    }
+    if dim.greatest_depth() < depth {
+        return none;
+    }
+    let boxes = dim.box_depth(depth);
+    let length = 2 + axes + boxes;
+    if bytes.len() < length {
+        return none;
+    }
+    if !fours::same(fours::entries_of(bytes, axes), next.entries) {
+        return none;
+    }
+    if !same_boxes(bytes, 2 + axes, boxes, next.boxes) {
+        return none;
+    }
+    Match { length, depth }
+}
+
+// A cell on the way up: its entries, its path as a number and its depth.
+struct Up {
+    entries: Four,
+    path: u64,
+    depth: usize,
+}
+
+// Drops the 1s at a path's end: up to the first cell whose last step is no 1.
+fn climb(from: Four, path: u64, depth: usize, dim: Dim) -> Up
+    requires { ⌜ ClimbReady (axesOf dim) from path depth ⌝ }
+    ensures { λ r. ⌜ UpIs (axesOf dim) from path depth r ⌝ }
+{
+    let axes = dim.axes();
+    let mut first = from.first;
+    let mut second = from.second;
+    let mut third = from.third;
+    let mut fourth = from.fourth;
+    let mut left = path;
+    let mut t = depth;
+    let mut k = dim.split_place(depth);
+    while left % 2 == 1 {
+        k = steps::place_above(k, axes);
+        let here = Four {
+            first,
+            second,
+            third,
+            fourth,
+        };
+        let back = fours::turned_back(here, k - 1);
+        first = back.first;
+        second = back.second;
+        third = back.third;
+        fourth = back.fourth;
+        left = left / 2;
+        t -= 1;
+    }
+    let entries = Four {
+        first,
+        second,
+        third,
+        fourth,
+    };
+    Up {
+        entries,
+        path: left,
+        depth: t,
+    }
+}
+
+// The digits from a place on, all replaced by one.
+fn filled(boxes: u64, from: usize, own: u8) -> u64
+    requires { ⌜ (from ≤ halvings) × (own < 16) ⌝ }
+    ensures { λ r. ⌜ digits halvings r ≡ take from (digits halvings boxes) ++ replicate (halvings - from) own ⌝ }
+{
+    let p = positions::power(4 * from);
+    boxes % p + ONES * positions::wide(own) / p * p
+}
+
+// The cell after a leaf, where the root has one more.
+pub struct Onward {
+    pub more: bool,
+    pub next: Next,
+}
+
+// The cell after the leaf of a depth that is the next cell or the first one inside it: the 1s at its path's end are dropped, and
+// the last 0 becomes 1. That costs as many steps up as were gone down.
+pub fn after(next: Next, dim: Dim, depth: usize) -> Onward
+    requires { ⌜ AfterReady (axesOf dim) next depth ⌝ }
+    ensures { λ r. ⌜ AfterIs (axesOf dim) next depth r ⌝ }
+{
+    let path = next.path * positions::power(depth - next.depth);
+    let up = climb(next.entries, path, depth, dim);
+    if up.depth == 0 {
+        return Onward { more: false, next };
+    }
+    let above = up.depth - 1;
+    let entries = fours::turned_on(up.entries, dim.split_place(above) - 1);
+    let boxes = filled(next.boxes, dim.box_depth(above), fours::own_of(entries));
+    Onward {
+        more: true,
+        next: Next {
+            entries,
+            boxes,
+            depth: up.depth,
+            path: up.path + 1,
+        },
+    }
+}
+
+// The first cell of a root, by the root's number: the root itself. Past the last root it gives the first one again.
+pub fn first(dim: Dim, n: usize) -> Next
+    ensures { λ r. ⌜ FirstIs (axesOf dim) n r ⌝ }
+{
+    let row = roots::first_row(dim) + check::place_in(n, dim.roots());
+    let entries = Four {
+        first: roots::entry(row, 0),
+        second: roots::entry(row, 1),
+        third: roots::entry(row, 2),
+        fourth: roots::entry(row, 3),
+    };
+    Next {
+        entries,
+        boxes: 0,
+        depth: 0,
+        path: 0,
+    }
+}
