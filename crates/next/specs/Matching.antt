@@ -100,7 +100,7 @@ module _ {d : ℕ} {s : Next} {bs : List ℕ} (h : Shaped d s bs) where
 
 -- a test that fails
 pub not-matched : {d : ℕ} {s : Next} {bs : List ℕ} → (Shaped d s bs → ⊥) → MatchIs d s bs (record { length = 0; depth = 0 })
-not-matched n = record { hit = λ root p st q. absurd (q refl); told = λ root p st f. absurd (n (first-shaped st f)) }
+not-matched n = record { room = omega arith; hit = λ root p st q. absurd (q refl); told = λ root p st f. absurd (n (first-shaped st f)) }
 
 -- all tests pass
 module _ {d : ℕ} (s : Next) (D L : ℕ) (bs : List ℕ) (dim : getD bs 0 0 ≡ d) (dep : getD bs 1 0 ≡ D) (boxes : L ≡ boxDepth d D) (above : s .depth ≤ D) (deep : D ≤ greatestDepth d) (room : 2 + d + L ≤ length bs) where
@@ -125,7 +125,7 @@ module _ {d : ℕ} (s : Next) (D L : ℕ) (bs : List ℕ) (dim : getD bs 0 0 ≡
 
   module _ (x : Four) (x-is : four x ≡ paste noEntries 0 (drop 2 bs) d) (same : four x ≡ four (s .entries)) (alike : take L (drop (2 + d) bs) ≡ digits L (s .boxes)) where
     pub matched : MatchIs d s bs (record { length = 2 + d + L; depth = D })
-    matched = record { hit = λ root p st q. hit root p st; told = λ root p st f q. omega (arith, q) }
+    matched = record { room = room; hit = λ root p st q. hit root p st; told = λ root p st f q. omega (arith, q) }
       where
         hit : (root : List ℕ) (p : List Bool) → Stands d s root p → Matched root p bs (record { length = 2 + d + L; depth = D })
         hit root p st = record {
@@ -139,7 +139,6 @@ module _ {d : ℕ} (s : Next) (D L : ℕ) (bs : List ℕ) (dim : getD bs 0 0 ≡
           };
           length-is = sym front-size;
           depth-is = sym whole;
-          room = room;
         }
           where
             whole : D - length p + length p ≡ D

@@ -41,10 +41,10 @@ pub record Matched (root : List ℕ) (p : List Bool) (bs : List ℕ) (r : Match)
   pub first : First root p (frontCode bs)
   pub length-is : r .length ≡ frontLength bs
   pub depth-is : r .depth ≡ first .n + length p
-  pub room : r .length ≤ length bs
 
 -- the code at the front of bytes is that of the cell or of the first one inside it, exactly where a length is told
 pub record MatchIs (d : ℕ) (s : Next) (bs : List ℕ) (r : Match) : Type 0 where
+  pub room : r .length ≤ length bs
   pub hit : (root : List ℕ) (p : List Bool) → Stands d s root p → r .length ≢ 0 → Matched root p bs r
   pub told : (root : List ℕ) (p : List Bool) → Stands d s root p → First root p (frontCode bs) → r .length ≢ 0
 

@@ -1,198 +1,117 @@
--- The loop of the sheet check: what has been read is a front of some good sheet, and its state says where the next
--- leaf starts.
+-- The loop of the sheet check: what has been read is a front of some good sheet, and its state stands for the cell behind it.
 use mathlib.Core.Path.{_≡_, refl, sym, ap, _∙_, subst}
 use mathlib.Core.Bool.{Bool, true, false}
 use mathlib.Core.List.{List, [], _∷_, _++_, append-assoc, append-nil}
 use mathlib.Core.Logic.{_≢_}
 use Prim.Native.Nat.{ℕ, zero, suc, _+_, _-_, _*_, _^_, _≤_, _<_}
 use native.Mathlib.Omega.{arith}
-use native.Mathlib.Nat.{zero-add}
 use lib.Dec.{T}
-use lib.ListN.{length, getD, take, drop, length-append, length-drop, length-take, take-append-drop, drop-of-length-le}
-use lib.Pow.{pow-pos}
-use lib.Seq.{drop-drop, drop-cons, take-all, take-at, take-add}
+use lib.ListN.{length, getD, take, drop, length-append, length-drop, drop-of-length-le}
+use lib.Seq.{drop-cons, take-all, take-at, take-add}
 use Rattle.dimension.specs.Sizes.{isDimension, greatestDepth, rootCount}
 use Rattle.dimension.specs.Laws.{dimension}
-use Rattle.bisection.specs.Roots.{GoodRoot, GoodPath, roots}
+use Rattle.bisection.specs.Roots.{roots}
 use Rattle.bisection.specs.Codes.{codeOf, IsCodeOf}
-use Rattle.bisection.specs.Refusals.{done}
-use Rattle.bisection.specs.Theorems.CodePaths.{one-path, path-steps}
-use Rattle.codes.specs.Fronts.{frontDimension, frontCode}
-use Rattle.codes.specs.Fronts.Laws.{front-code-dimension, front-root}
-use Rattle.positions.specs.declared.Position.{Position}
-use Rattle.positions.specs.Positions.{startOf, sizeOf, PositionIs}
-use Rattle.positions.specs.RootNumbers.{roots-count, roots-some, roots-apart}
+use Rattle.bisection.specs.Refusals.{done, codeRefusal}
+use Rattle.bisection.specs.Theorems.CodePaths.{one-path, code-passes}
+use Rattle.codes.specs.Fronts.{frontDimension, frontLength, frontCode}
+use Rattle.codes.specs.Fronts.Laws.{front-code-dimension, front-root, front-known}
+use Rattle.positions.specs.RootNumbers.{roots-count, roots-some, roots-few}
+use Rattle.next.specs.declared.Next.{Next}
+use Rattle.next.specs.declared.Match.{Match}
+use Rattle.next.specs.declared.Onward.{Onward}
+use Rattle.next.specs.Paths.{steps, zeros}
+use Rattle.next.specs.Nexts.{Stands, First, Matched, MatchIs, Gone, on, over, AfterIs, FirstIs}
+use Rattle.next.specs.Matching.{matched-ready}
 use Rattle.sheets.specs.declared.State.{State}
 use Rattle.sheets.specs.declared.SheetAnswer.{SheetAnswer}
-use Rattle.sheets.specs.declared.Stepped.{Stepped}
-use Rattle.sheets.specs.Forests.{TreeCell, treeCell, Leaves, NoDeeper}
-use Rattle.sheets.specs.Sheets.{refusedLeaf, Records, GoodSheet, Begins, behindMark, recordLength, recordRefusal, Read, start, next, told, Checks, good, record-refused, not-next, ended-early}
-use Rattle.sheets.specs.Steps.{Fits, TakeIs, not-taken, on, over, moved, StepIs, own-refusal, read}
-use Rattle.sheets.specs.Theorems.Frontier.{bit, steps, steps-length, zeros, zeros-length, advance, Follows, end, leaf, begins-follows, follows-begins, good-follows, follows-good, follows-one, Split, follows-split, follows-join}
+use Rattle.sheets.specs.Forests.{TreeCell, treeCell, Leaves}
+use Rattle.sheets.specs.Sheets.{refusedLeaf, GoodSheet, Begins, behindMark, isMarked, bodyLength, recordLength, recordRefusal, Read, start, next, told, Checks, good, record-refused, not-next, ended-early}
+use Rattle.sheets.specs.Steps.{stateOf, OpenIs, was-open, opens, shut, Known, bodyOf, FitsIs, no-dimension, unmarked, no-root, other, cut-short, fitting, MoveReady, MoveIs}
+use Rattle.sheets.specs.Steps as steps-of
+use Rattle.sheets.specs.StepLaws.{parts-marked, parts-passed, record-marked, part-all}
+use Rattle.sheets.specs.Theorems.Frontier.{advance, advance-on, advance-over, Follows, end, leaf, begins-follows, follows-begins, good-follows, follows-good, follows-one, Split, follows-split, follows-join}
 use Rattle.sheets.specs.Theorems.Frontier as frontier
-use Rattle.sheets.specs.Theorems.Line.{Ends, at-root, at-one, Zeroed, start-next, start-zeros, start-inside, Advanced, same-root, root-over, advanced, bits, Bits}
+use Rattle.sheets.specs.Theorems.Reading.{passed, unmarked-by-code}
 use Rattle.sheets.specs.Theorems.Listing.{GoodCell, recordOf, IsRecord, record-read, Listed, listed-none, listed-more, listed-join, listed-empty, Cut, cut}
-use Rattle.sheets.specs.Theorems.Listing.{CellsIn, cells-none, cells-more, cells-join, cells-front, cells-within, records-listed, listed-records, write, records-join, roots-in, follows-cells, leaves-cells, same-dimension}
+use Rattle.sheets.specs.Theorems.Listing.{CellsIn, cells-none, cells-more, cells-join, cells-front, cells-within, records-listed, listed-records, write, records-join, leaves-cells, same-dimension}
 use Rattle.sheets.specs.Theorems.Determined.{record-inside}
 
-abbrev pub M : ℕ → ℕ
-M d = greatestDepth d
-
--- in dimension d, after these cells: root is the number of the frontier's root, start where the frontier starts
-pub record Stands (d : ℕ) (cells : List TreeCell) (root start : ℕ) : Type 0 where
+-- in dimension d, after these cells: the number of the frontier's root, and the cell of its path
+pub record Ahead (d : ℕ) (cells : List TreeCell) (root : ℕ) (cell : Next) : Type 0 where
   pub cells-in : CellsIn d cells
   pub path : List Bool
   pub follows : Follows (frontier.state (roots d) []) cells (frontier.state (drop root (roots d)) path)
-  pub ends : Ends path
-  pub short : length path ≤ greatestDepth d
-  pub start-is : start ≡ startOf (greatestDepth d) (steps path)
   pub root-in : root ≤ length (roots d)
+  pub stands : root < length (roots d) → Stands d cell (getD (roots d) root []) path
 
--- no record yet, or in a dimension
-pub data Front (cells : List TreeCell) (s : State) : Type 0 where
-  fresh : cells ≡ [] → s .dimension ≡ 0 → s .root ≡ 0 → s .start ≡ 0 → Front cells s
-  within : isDimension (s .dimension) ≡ true → 0 < length cells → Stands (s .dimension) cells (s .root) (s .start) → Front cells s
+ahead-first : (d : ℕ) (n : Next) → FirstIs d 0 n → Ahead d [] 0 n
+ahead-first d n f = record { cells-in = cells-none; path = []; follows = end; root-in = omega arith; stands = f .first }
 
-pub record Going (mark : List ℕ) (width : ℕ) (sheet : List ℕ) (s : State) : Type 0 where
-  pub inside : s .offset ≤ length sheet
-  pub few : s .records ≤ s .offset
-  pub cells : List TreeCell
-  pub listed : Listed mark width cells (take (s .offset) sheet)
-  pub count : length cells ≡ s .records
-  pub reading : Read mark width sheet (s .offset) (s .records)
-  pub front : Front cells s
+module _ {d : ℕ} {cells : List TreeCell} {root : ℕ} {cell : Next} (w : Ahead d cells root cell) where
+  abbrev here : List ℕ
+  here = getD (roots d) root []
 
-pub going-start : (mark : List ℕ) (width : ℕ) (sheet : List ℕ) → Going mark width sheet (record { offset = 0; records = 0; dimension = 0; root = 0; start = 0 })
-going-start mark width sheet = record { inside = omega arith; few = omega arith; cells = []; listed = listed-none; count = refl; reading = start; front = fresh refl refl refl refl }
-
--- nothing read: the first root's empty path
-stands-first : (d : ℕ) → Stands d [] 0 0
-unfolding startOf steps
-stands-first d = record { cells-in = cells-none; path = []; follows = end; ends = at-root; short = omega arith; start-is = refl; root-in = omega arith }
-
--- the state's frontier in the dimension of the next leaf
-stands-in : {cells : List TreeCell} {s : State} → Front cells s → (d : ℕ) → (s .dimension ≢ 0 → s .dimension ≡ d) → Stands d cells (s .root) (s .start)
-stands-in {cells} {s} (fresh a b c e) d h = rw (a, c, e) (stands-first d)
-stands-in {cells} {s} (within a b w) d h = subst (λ (n : ℕ). Stands n cells (s .root) (s .start)) (h (some (s .dimension) a)) w
-  where
-    some : (n : ℕ) → isDimension n ≡ true → n ≢ 0
-    some n e q = omega (arith, dimension n e .two)
-
--- one leaf more
-record Leafed (d : ℕ) (cells : List TreeCell) (c : TreeCell) (n : ℕ) (e : ℕ) : Type 0 where
-  pub stays : e ≢ 2 ^ greatestDepth d → Stands d (cells ++ c ∷ []) n e
-  pub turns : e ≡ 2 ^ greatestDepth d → Stands d (cells ++ c ∷ []) (n + 1) 0
-
-module _ (d : ℕ) (dim : isDimension d ≡ true) (cells : List TreeCell) (root st : ℕ) (w : Stands d cells root st) (c : TreeCell) (g : GoodCell c) (ax : length (c .root) ≡ d) where
-  deep : length (c .path) ≤ greatestDepth d
-  deep = subst (λ (n : ℕ). length (c .path) ≤ greatestDepth n) ax (g .good-path .depth)
-
-  b : Bits (c .path)
-  b = bits (c .path) (path-steps (g .good-path))
-
-  b-length : length (b .bools) ≡ length (c .path)
-  b-length = sym (steps-length (b .bools)) ∙ ap length (b .is)
-
-  more-cells : CellsIn d (cells ++ c ∷ [])
-  more-cells = cells-join (w .cells-in) (cells-more g ax cells-none)
-
-  -- the leaf that fits is the next one
-  module _ (lt : root < length (roots d)) (is : getD (roots d) root [] ≡ c .root) (s-is : startOf (greatestDepth d) (c .path) ≡ st) where
-    z : Zeroed (w .path) (b .bools)
-    z = start-next (greatestDepth d) (b .bools) (w .path) (omega (arith, b-length, deep)) (w .short) (w .ends) (ap (startOf (greatestDepth d)) (b .is) ∙ s-is ∙ w .start-is)
-
+  -- the leaf that is the cell or the first one inside it, and the state of the frontier behind it
+  module _ (lt : root < length (roots d)) (c : TreeCell) (g : GoodCell c) (ax : length (c .root) ≡ d) (n : ℕ) (is : c ≡ treeCell here (steps (zeros n (w .path)))) where
     rest : List (List ℕ)
     rest = drop (suc root) (roots d)
 
-    here : drop root (roots d) ≡ c .root ∷ rest
+    roots-here : drop root (roots d) ≡ here ∷ rest
     unfolding rest
-    here = drop-cons (roots d) root [] lt ∙ ap (λ (r : List ℕ). r ∷ drop (suc root) (roots d)) is
+    roots-here = drop-cons (roots d) root [] lt
 
-    c-is : c ≡ treeCell (c .root) (steps (zeros (z .n) (w .path)))
-    c-is = λ i. record { root = c .root; path = (sym (b .is) ∙ ap steps (z .is)) i }
+    joined : Follows (frontier.state (roots d) []) (cells ++ c ∷ []) (advance here rest (zeros n (w .path)))
+    joined = follows-join (subst (λ (rs : List (List ℕ)). Follows (frontier.state (roots d) []) cells (frontier.state rs (w .path))) roots-here (w .follows))
+        (subst (λ (x : TreeCell). Follows (frontier.state (here ∷ rest) (w .path)) (x ∷ []) (advance here rest (zeros n (w .path)))) (sym is) (leaf n end))
 
-    joined : Follows (frontier.state (roots d) []) (cells ++ c ∷ []) (advance (c .root) rest (zeros (z .n) (w .path)))
-    joined = follows-join (subst (λ (rs : List (List ℕ)). Follows (frontier.state (roots d) []) cells (frontier.state rs (w .path))) here (w .follows))
-        (subst (λ (x : TreeCell). Follows (frontier.state (c .root ∷ rest) (w .path)) (x ∷ []) (advance (c .root) rest (zeros (z .n) (w .path)))) (sym c-is) (leaf (z .n) end))
+    more-cells : CellsIn d (cells ++ c ∷ [])
+    more-cells = cells-join (w .cells-in) (cells-more g ax cells-none)
 
-    joined-as : Follows (frontier.state (roots d) []) (cells ++ c ∷ []) (advance (c .root) rest (b .bools))
-    joined-as = subst (λ (q : List Bool). Follows (frontier.state (roots d) []) (cells ++ c ∷ []) (advance (c .root) rest q)) (sym (z .is)) joined
+    pub ahead-on : {x : Onward} → x .more ≡ true → Gone d here (zeros n (w .path)) x → Ahead d (cells ++ c ∷ []) root (x .next)
+    ahead-on m (over e f) = absurd (subst T (sym m ∙ f) tt)
+    ahead-on m (on p e f st) = record {
+      cells-in = more-cells;
+      path = true ∷ p;
+      follows = subst (Follows (frontier.state (roots d) []) (cells ++ c ∷ [])) (advance-on here rest (zeros n (w .path)) p e ∙ ap (λ (rs : List (List ℕ)). frontier.state rs (true ∷ p)) (sym roots-here)) joined;
+      root-in = w .root-in;
+      stands = λ l. st;
+    }
 
-    ending : (e : ℕ) → e ≡ st + sizeOf (greatestDepth d) (c .path) → startOf (greatestDepth d) (steps (b .bools)) + 2 ^ (greatestDepth d - length (b .bools)) ≡ e
-    unfolding sizeOf
-    ending e q = ap (λ (n : ℕ). startOf (greatestDepth d) (steps (b .bools)) + 2 ^ (greatestDepth d - n)) b-length ∙ ap (λ (p : List ℕ). startOf (greatestDepth d) p + 2 ^ (greatestDepth d - length (c .path))) (b .is) ∙ ap (λ (n : ℕ). n + 2 ^ (greatestDepth d - length (c .path))) s-is ∙ sym q
-
-    leafed : (e : ℕ) → e ≡ st + sizeOf (greatestDepth d) (c .path) → Leafed d cells c root e
+    pub ahead-over : {x : Onward} {y : Next} → x .more ≡ false → Gone d here (zeros n (w .path)) x → FirstIs d (root + 1) y → Ahead d (cells ++ c ∷ []) (root + 1) y
     unfolding rest
-    leafed e q = go (advanced (greatestDepth d) (c .root) rest (b .bools) (omega (arith, b-length, deep)))
+    ahead-over m (on p e f st) q = absurd (subst T (sym f ∙ m) tt)
+    ahead-over m (over e f) q = record {
+      cells-in = more-cells;
+      path = [];
+      follows = subst (Follows (frontier.state (roots d) []) (cells ++ c ∷ [])) (advance-over here rest (zeros n (w .path)) e ∙ ap (λ (k : ℕ). frontier.state (drop k (roots d)) []) plus) joined;
+      root-in = omega arith;
+      stands = q .first;
+    }
       where
         plus : suc root ≡ root + 1
         plus = omega arith
 
-        go : Advanced (greatestDepth d) (c .root) rest (b .bools) → Leafed d cells c root e
-        go (same-root p a en h s) = record {
-          stays = λ n. record {
-            cells-in = more-cells;
-            path = p;
-            follows = subst (λ (x : frontier.State). Follows (frontier.state (roots d) []) (cells ++ c ∷ []) x) (a ∙ ap (λ (rs : List (List ℕ)). frontier.state rs p) (sym here)) joined-as;
-            ends = en;
-            short = h;
-            start-is = sym (ending e q) ∙ s;
-            root-in = w .root-in;
-          };
-          turns = λ n. absurd (omega (arith, start-inside (greatestDepth d) p h, pow-pos (greatestDepth d - length p), sym (ending e q) ∙ s));
-        }
-        go (root-over a s) = record {
-          stays = λ n. absurd (n (sym (ending e q) ∙ s));
-          turns = λ n. record {
-            cells-in = more-cells;
-            path = [];
-            follows = subst (λ (x : frontier.State). Follows (frontier.state (roots d) []) (cells ++ c ∷ []) x) (a ∙ ap (λ (k : ℕ). frontier.state (drop k (roots d)) []) plus) joined-as;
-            ends = at-root;
-            short = omega arith;
-            start-is = unfold startOf steps in refl;
-            root-in = omega arith;
-          };
-        }
+  -- a leaf that follows is one
+  pub record Taken (c : TreeCell) : Type 0 where
+    pub root-left : root < length (roots d)
+    pub n : ℕ
+    pub root-is : c .root ≡ here
+    pub path-is : c .path ≡ steps (zeros n (w .path))
 
-  -- a leaf that is the next one fits
-  module _ (u : frontier.State) (f : Follows (frontier.state (roots d) []) (cells ++ c ∷ []) u) where
-    k : Split (frontier.state (roots d) []) cells (c ∷ []) u
-    k = follows-split cells (c ∷ []) f
+  taken-by : {s u : frontier.State} {ls : List TreeCell} (c : TreeCell) → s ≡ frontier.state (drop root (roots d)) (w .path) → ls ≡ c ∷ [] → Follows s ls u → Taken c
+  taken-by c e q end = absurd (let z : _≡_ {A = ℕ} 0 1 = cc in omega arith)
+  taken-by c e q (leaf {r = r} {rs = rs} {p = p} n g) =
+      let a : treeCell r (steps (zeros n p)) ≡ c = cc in
+      let all : r ∷ rs ≡ drop root (roots d) = ap (λ (s : frontier.State). s .roots) e in
+      let lt : root < length (roots d) = omega (arith, length-drop root (roots d), ap length all) in
+      let first : r ∷ rs ≡ here ∷ drop (suc root) (roots d) = all ∙ drop-cons (roots d) root [] lt in
+      record { root-left = lt; n = n; root-is = sym (ap (λ (y : TreeCell). y .root) a) ∙ cc first; path-is = sym (ap (λ (y : TreeCell). y .path) a) ∙ ap (λ (s : frontier.State). steps (zeros n (s .path))) e }
 
-    back : Follows (frontier.state (drop root (roots d)) (w .path)) (c ∷ []) u
-    back = subst (λ (x : frontier.State). Follows x (c ∷ []) u) (follows-one (k .front) (w .follows)) (k .back)
-
-    pub record Taken (rs : List (List ℕ)) (p : List Bool) (x : TreeCell) : Type 0 where
-      pub rest : List (List ℕ)
-      pub n : ℕ
-      pub roots-are : rs ≡ x .root ∷ rest
-      pub path-is : x .path ≡ steps (zeros n p)
-
-    taken : {s : frontier.State} {ls : List TreeCell} (rs : List (List ℕ)) (p : List Bool) (x : TreeCell) → s ≡ frontier.state rs p → ls ≡ x ∷ [] → Follows s ls u → Taken rs p x
-    taken rs p x e q end = absurd (let z : _≡_ {A = ℕ} 0 1 = cc in omega arith)
-    taken rs p x e q (leaf {r = r} {rs = rs′} {p = p′} n g) =
-        let a : treeCell r (steps (zeros n p′)) ≡ x = cc in
-        let h : p′ ≡ p = ap (λ (s : frontier.State). s .path) e in
-        record { rest = rs′; n = n; roots-are = sym (ap (λ (s : frontier.State). s .roots) e) ∙ ap (λ (y : TreeCell). y .root ∷ rs′) a; path-is = sym (ap (λ (y : TreeCell). y .path) a) ∙ ap (λ (y : List Bool). steps (zeros n y)) h }
-
-    t : Taken (drop root (roots d)) (w .path) c
-    t = taken (drop root (roots d)) (w .path) c refl refl back
-
-    next-root : (root < length (roots d)) × (getD (roots d) root [] ≡ c .root)
-    next-root = (lt, head-of)
-      where
-        lt : root < length (roots d)
-        lt = omega (arith, length-drop root (roots d), ap length (t .roots-are))
-
-        both-are : getD (roots d) root [] ∷ drop (suc root) (roots d) ≡ c .root ∷ t .rest
-        both-are = sym (drop-cons (roots d) root [] lt) ∙ t .roots-are
-
-        head-of : getD (roots d) root [] ≡ c .root
-        head-of = cc both-are
-
-    next-start : startOf (greatestDepth d) (c .path) ≡ st
-    next-start = ap (startOf (greatestDepth d)) (t .path-is) ∙ start-zeros (greatestDepth d) (t .n) (w .path) (omega (arith, deep, ap length (t .path-is), steps-length (zeros (t .n) (w .path)), zeros-length (t .n) (w .path))) ∙ sym (w .start-is)
+  taken : (c : TreeCell) {u : frontier.State} → Follows (frontier.state (roots d) []) (cells ++ c ∷ []) u → Taken c
+  taken c {u} f =
+      let k = follows-split cells (c ∷ []) f in
+      taken-by c refl refl (subst (λ (x : frontier.State). Follows x (c ∷ []) u) (follows-one (k .front) (w .follows)) (k .back))
 
 last-dimension : {d : ℕ} (cs : List TreeCell) (c : TreeCell) → CellsIn d (cs ++ c ∷ []) → length (c .root) ≡ d
 last-dimension [] c (cells-more g e l) = e
@@ -201,158 +120,296 @@ last-dimension (x ∷ cs) c (cells-more g e l) = last-dimension cs c l
 listed-good : {mark : List ℕ} {width : ℕ} {sheet : List ℕ} {n : ℕ} (g : GoodSheet mark width sheet n) → Listed mark width (g .cells) sheet
 listed-good g = records-listed (leaves-cells (g .dimension) (g .is-dimension) (g .leaves)) (g .records)
 
-module _ {mark : List ℕ} {width : ℕ} {sheet : List ℕ} {s : State} (g : Going mark width sheet s) where
-  -- one record more
-  module _ (ok : recordRefusal mark width (drop (s .offset) sheet) ≡ done) where
-    abbrev n : ℕ
-    n = recordLength mark width (drop (s .offset) sheet)
+-- what has been read
+pub record Behind (mark : List ℕ) (width : ℕ) (sheet : List ℕ) (offset records : ℕ) (cells : List TreeCell) : Type 0 where
+  pub inside : offset ≤ length sheet
+  pub few : records ≤ offset
+  pub listed : Listed mark width cells (take offset sheet)
+  pub count : length cells ≡ records
+  pub reading : Read mark width sheet offset records
 
-    it : IsRecord mark width (drop (s .offset) sheet)
-    it = record-read mark width (drop (s .offset) sheet) ok
+-- no record yet, or in a dimension
+pub data Front (cells : List TreeCell) (s : State) : Type 0 where
+  fresh : cells ≡ [] → s .dimension ≡ 0 → Front cells s
+  within : isDimension (s .dimension) ≡ true → 0 < length cells → Ahead (s .dimension) cells (s .root) (s .next) → Front cells s
 
-    abbrev c : TreeCell
-    c = it .of
+pub record Going (mark : List ℕ) (width : ℕ) (sheet : List ℕ) (s : State) : Type 0 where
+  pub cells : List TreeCell
+  pub behind : Behind mark width sheet (s .offset) (s .records) cells
+  pub front : Front cells s
 
-    abbrev piece : List ℕ
-    piece = recordOf mark (it .of) (it .samples) []
+pub going-start : (mark : List ℕ) (width : ℕ) (sheet : List ℕ) (n : Next) → Going mark width sheet (stateOf 0 0 0 0 n)
+going-start mark width sheet n = record { cells = []; behind = record { inside = omega arith; few = omega arith; listed = listed-none; count = refl; reading = start }; front = fresh refl refl }
 
-    regroup : (a b c d : List ℕ) → (a ++ (b ++ (c ++ []))) ++ d ≡ a ++ (b ++ (c ++ d))
-    regroup a b c d = simp append-assoc
+-- with the dimension of the record that comes, where that passes
+pub data Ready (mark : List ℕ) (width : ℕ) (sheet : List ℕ) (cells : List TreeCell) (s : State) : Type 0 where
+  never : s .dimension ≡ 0 → recordRefusal mark width (drop (s .offset) sheet) ≢ done → Ready mark width sheet cells s
+  known : isDimension (s .dimension) ≡ true → Ahead (s .dimension) cells (s .root) (s .next)
+      → ((d : ℕ) (c : TreeCell) → length (c .root) ≡ frontDimension (behindMark mark (drop (s .offset) sheet)) → CellsIn d (cells ++ c ∷ []) → s .dimension ≡ d) → Ready mark width sheet cells s
 
-    whole : drop (s .offset) sheet ≡ piece ++ drop n (drop (s .offset) sheet)
-    whole = it .is ∙ sym (regroup mark (codeOf (it .of .root) (it .of .path)) (it .samples) (drop (recordLength mark width (drop (s .offset) sheet)) (drop (s .offset) sheet)))
+pub record Opened (mark : List ℕ) (width : ℕ) (sheet : List ℕ) (s : State) : Type 0 where
+  pub cells : List TreeCell
+  pub behind : Behind mark width sheet (s .offset) (s .records) cells
+  pub ready : Ready mark width sheet cells s
 
-    piece-size : length piece ≡ n
-    piece-size = omega (arith, ap length whole, length-append piece (drop n (drop (s .offset) sheet)), length-drop n (drop (s .offset) sheet), it .inside)
+some-dimension : (n : ℕ) → isDimension n ≡ true → n ≢ 0
+some-dimension n e q = omega (arith, dimension n e .two)
 
-    to-is : take (s .offset + n) sheet ≡ take (s .offset) sheet ++ piece
-    to-is = take-add (s .offset) n sheet ∙ ap (λ (l : List ℕ). take (s .offset) sheet ++ l) (ap (λ (l : List ℕ). take n l) whole ∙ take-at piece (drop n (drop (s .offset) sheet)) n piece-size)
+pub go-opened : {mark : List ℕ} {width : ℕ} {sheet : List ℕ} {s r : State} → Going mark width sheet s → OpenIs mark s (drop (s .offset) sheet) r → Opened mark width sheet r × (r .offset ≡ s .offset)
+go-opened {mark} {width} {sheet} {s} {r} g (was-open h e) = (subst (Opened mark width sheet) (sym e) (record { cells = g .cells; behind = g .behind; ready = by (g .front) }), ap (λ (x : State). x .offset) e)
+  where
+    by : Front (g .cells) s → Ready mark width sheet (g .cells) s
+    by (fresh a z) = absurd (h z)
+    by (within k l w) = known k w (λ d c q v. same-dimension l (w .cells-in) (cells-front (g .cells) (c ∷ []) v))
+go-opened {mark} {width} {sheet} {s} {r} g (opens {n = n} {d = d} z p q f e) = (subst (Opened mark width sheet) (sym e) (record { cells = g .cells; behind = g .behind; ready = by (g .front) }), ap (λ (x : State). x .offset) e)
+  where
+    by : Front (g .cells) s → Ready mark width sheet (g .cells) (stateOf (s .offset) (s .records) d 0 n)
+    by (fresh a z) = known (rw q (front-known (behindMark mark (drop (s .offset) sheet)) p)) (rw a (ahead-first d n f)) (λ i c o v. q ∙ sym o ∙ last-dimension (g .cells) c v)
+    by (within k l w) = absurd (some-dimension (s .dimension) k z)
+go-opened {mark} {width} {sheet} {s} {r} g (shut z h e) = (subst (Opened mark width sheet) (sym e) (record { cells = g .cells; behind = g .behind; ready = never z (h width) }), ap (λ (x : State). x .offset) e)
 
-    more-listed : Listed mark width (g .cells ++ c ∷ []) (take (s .offset + n) sheet)
-    more-listed = subst (Listed mark width (g .cells ++ it .of ∷ [])) (sym to-is) (listed-join mark width (g .listed) (listed-more (it .good) (it .samples) (it .size) refl listed-none))
+pub opened-known : {mark : List ℕ} {width : ℕ} {sheet : List ℕ} {s : State} → Opened mark width sheet s → Known s
+opened-known {mark} {width} {sheet} {s} o = record { known = λ n. by n (o .ready) }
+  where
+    by : s .dimension ≢ 0 → Ready mark width sheet (o .cells) s → isDimension (s .dimension) ≡ true
+    by n (never z h) = absurd (n z)
+    by n (known k w q) = k
 
-    axes : length (c .root) ≡ frontDimension (behindMark mark (drop (s .offset) sheet))
-    axes = sym (front-root (record { good-root = it .good .good-root; good-path = it .good .good-path; is = it .code-is })) ∙ front-code-dimension (behindMark mark (drop (s .offset) sheet))
+-- a record whose code matches has the length that its bytes tell
+fit-body : (mark : List ℕ) (width : ℕ) (bs : List ℕ) (s : State) {root : List ℕ} {p : List Bool} {m : Match} → Stands (s .dimension) (s .next) root p → Matched root p (behindMark mark bs) m → bodyOf width s m ≡ bodyLength width (behindMark mark bs)
+unfolding bodyLength
+fit-body mark width bs s st h = rw (h .length-is, axes) refl
+  where
+    axes : s .dimension ≡ frontDimension (behindMark mark bs)
+    axes = sym (st .cell .rooted .axes) ∙ sym (front-root (h .first .code-of)) ∙ front-code-dimension (behindMark mark bs)
 
-    abbrev d : ℕ
-    d = frontDimension (behindMark mark (drop (s .offset) sheet))
+-- a record that passes its own tests
+module _ {mark : List ℕ} {width : ℕ} {sheet : List ℕ} {s : State} (o : Opened mark width sheet s) (ok : recordRefusal mark width (drop (s .offset) sheet) ≡ done) where
+  abbrev bs : List ℕ
+  bs = drop (s .offset) sheet
 
-    is-d : isDimension d ≡ true
-    is-d = subst (λ (k : ℕ). isDimension k ≡ true) axes (it .good .good-root .dimension)
+  abbrev n : ℕ
+  n = recordLength mark width (drop (s .offset) sheet)
 
-    -- the leaf's position
-    module _ (leaf : Position) (at : PositionIs (frontCode (behindMark mark (drop (s .offset) sheet))) leaf) where
-      the-cell : (at .root ≡ it .of .root) × (at .path ≡ it .of .path)
-      the-cell = one-path (at .code-of) (record { good-root = it .good .good-root; good-path = it .good .good-path; is = it .code-is })
+  it : IsRecord mark width (drop (s .offset) sheet)
+  it = record-read mark width (drop (s .offset) sheet) ok
 
-      number-in : leaf .root < length (roots d)
-      number-in = subst (λ (k : ℕ). leaf .root < length (roots k)) (ap length (the-cell .0) ∙ axes) (at .number)
+  abbrev c : TreeCell
+  c = it .of
 
-      number-is : getD (roots d) (leaf .root) [] ≡ it .of .root
-      number-is = subst (λ (k : ℕ). getD (roots k) (leaf .root) [] ≡ at .root) (ap length (the-cell .0) ∙ axes) (at .root-is) ∙ the-cell .0
+  abbrev piece : List ℕ
+  piece = recordOf mark (it .of) (it .samples) []
 
-      leaf-start : leaf .start ≡ startOf (greatestDepth d) (it .of .path)
-      leaf-start = at .start-is ∙ ap (λ (k : ℕ). startOf (greatestDepth k) (at .path)) (ap length (the-cell .0) ∙ axes) ∙ ap (startOf (greatestDepth d)) (the-cell .1)
+  regroup : (a b c d : List ℕ) → (a ++ (b ++ (c ++ []))) ++ d ≡ a ++ (b ++ (c ++ d))
+  regroup a b c d = simp append-assoc
 
-      leaf-size : leaf .size ≡ sizeOf (greatestDepth d) (it .of .path)
-      leaf-size = at .size-is ∙ ap (λ (k : ℕ). sizeOf (greatestDepth k) (at .path)) (ap length (the-cell .0) ∙ axes) ∙ ap (sizeOf (greatestDepth d)) (the-cell .1)
+  whole : bs ≡ piece ++ drop n bs
+  whole = it .is ∙ sym (regroup mark (codeOf (it .of .root) (it .of .path)) (it .samples) (drop n bs))
 
-      -- a good sheet that begins so has the leaf next
-      fits : Begins mark width (take (s .offset + n) sheet) → Fits s d leaf
-      fits b = record { dimension-fits = same; root-fits = roots-apart d (leaf .root) (s .root) number-in (next .0) (number-is ∙ sym (next .1)); start-fits = leaf-start ∙ next-start d is-d (g .cells) (s .root) (s .start) w c (it .good) axes u f }
-        where
-          k : Cut mark width (b .good .cells) (g .cells ++ c ∷ []) (b .rest)
-          k = cut mark width (b .rest) more-listed (listed-good (b .good)) refl
+  piece-size : length piece ≡ n
+  piece-size = omega (arith, ap length whole, length-append piece (drop n bs), length-drop n bs, it .inside)
 
-          d′ : ℕ
-          d′ = b .good .dimension
+  to-is : take (s .offset + n) sheet ≡ take (s .offset) sheet ++ piece
+  to-is = take-add (s .offset) n sheet ∙ ap (λ (l : List ℕ). take (s .offset) sheet ++ l) (ap (λ (l : List ℕ). take n l) whole ∙ take-at piece (drop n bs) n piece-size)
 
-          cells-are : CellsIn (b .good .dimension) (g .cells ++ c ∷ [])
-          cells-are = cells-front (g .cells ++ c ∷ []) (k .behind) (subst (CellsIn (b .good .dimension)) (k .is) (leaves-cells (b .good .dimension) (b .good .is-dimension) (b .good .leaves)))
+  more-listed : Listed mark width (o .cells ++ c ∷ []) (take (s .offset + n) sheet)
+  more-listed = subst (Listed mark width (o .cells ++ it .of ∷ [])) (sym to-is) (listed-join mark width (o .behind .listed) (listed-more (it .good) (it .samples) (it .size) refl listed-none))
 
-          same-d : b .good .dimension ≡ d
-          same-d = sym (last-dimension (g .cells) c cells-are) ∙ axes
+  code-of : IsCodeOf (frontCode (behindMark mark bs)) (c .root) (c .path)
+  code-of = record { good-root = it .good .good-root; good-path = it .good .good-path; is = it .code-is }
 
-          follows : (x : frontier.State) × Follows (frontier.state (roots (b .good .dimension)) []) (g .cells ++ c ∷ []) x
-          follows = begins-follows (g .cells ++ c ∷ []) (k .behind) (subst (Leaves (roots (b .good .dimension)) (greatestDepth (b .good .dimension))) (k .is) (b .good .leaves))
+  axes : length (c .root) ≡ frontDimension (behindMark mark bs)
+  axes = sym (front-root code-of) ∙ front-code-dimension (behindMark mark bs)
 
-          u : frontier.State
-          u = follows .0
+  -- a good sheet that begins so has the next leaf here
+  begins-first : Begins mark width (take (s .offset + n) sheet) → isDimension (s .dimension) ≡ true → (w : Ahead (s .dimension) (o .cells) (s .root) (s .next))
+      → ((d : ℕ) (c : TreeCell) → length (c .root) ≡ frontDimension (behindMark mark bs) → CellsIn d (o .cells ++ c ∷ []) → s .dimension ≡ d)
+      → (s .root < length (roots (s .dimension))) × First (getD (roots (s .dimension)) (s .root) []) (w .path) (frontCode (behindMark mark bs))
+  begins-first b k w q = (t .root-left, record { n = t .n; code-of = subst (λ (r : List ℕ). IsCodeOf (frontCode (behindMark mark bs)) r (steps (zeros (t .n) (w .path)))) (t .root-is) (subst (IsCodeOf (frontCode (behindMark mark bs)) (c .root)) (t .path-is) code-of) })
+    where
+      l : Cut mark width (b .good .cells) (o .cells ++ c ∷ []) (b .rest)
+      l = cut mark width (b .rest) more-listed (listed-good (b .good)) refl
 
-          f : Follows (frontier.state (roots d) []) (g .cells ++ c ∷ []) (follows .0)
-          f = subst (λ (i : ℕ). Follows (frontier.state (roots i) []) (g .cells ++ c ∷ []) (follows .0)) same-d (follows .1)
+      cells-are : CellsIn (b .good .dimension) (o .cells ++ c ∷ [])
+      cells-are = cells-front (o .cells ++ c ∷ []) (l .behind) (subst (CellsIn (b .good .dimension)) (l .is) (leaves-cells (b .good .dimension) (b .good .is-dimension) (b .good .leaves)))
 
-          by-front : Front (g .cells) s → s .dimension ≢ 0 → s .dimension ≡ d
-          by-front (fresh a z r t) h = absurd (h z)
-          by-front (within a l w) h = same-dimension l (w .cells-in) (cells-front (g .cells) (c ∷ []) cells-are) ∙ same-d
+      follows : (x : frontier.State) × Follows (frontier.state (roots (b .good .dimension)) []) (o .cells ++ c ∷ []) x
+      follows = begins-follows (o .cells ++ c ∷ []) (l .behind) (subst (Leaves (roots (b .good .dimension)) (greatestDepth (b .good .dimension))) (l .is) (b .good .leaves))
 
-          same : s .dimension ≢ 0 → s .dimension ≡ d
-          same = by-front (g .front)
+      t : Taken w c
+      t = taken w c (subst (λ (i : ℕ). Follows (frontier.state (roots i) []) (o .cells ++ c ∷ []) (follows .0)) (sym (q _ c axes cells-are)) (follows .1))
 
-          w : Stands d (g .cells) (s .root) (s .start)
-          w = stands-in (g .front) d (by-front (g .front))
+  -- one that does not fit is not the next leaf
+  not-begun : {r : Match} → FitsIs mark width s bs r → r .length ≡ 0 → Begins mark width (take (s .offset + n) sheet) → ⊥
+  not-begun {r} f e b = by (o .ready) f
+    where
+      by : Ready mark width sheet (o .cells) s → FitsIs mark width s bs r → ⊥
+      by (never z h) f = h ok
+      by (known k w q) (no-dimension z x) = some-dimension (s .dimension) k z
+      by (known k w q) (unmarked m x) = subst T (sym (parts-marked mark width bs ok) ∙ m) tt
+      by (known k w q) (no-root z x) = omega (arith, begins-first b k w q .0, z, roots-count (s .dimension))
+      by (known k w q) (other m z x) = let t = begins-first b k w q in m .told (getD (roots (s .dimension)) (s .root) []) (w .path) (w .stands (t .0)) (t .1) z
+      by (known k w q) (cut-short m z l x) =
+          let t = begins-first b k w q in
+          let st = w .stands (t .0) in
+          let room = passed width (behindMark mark bs) (parts-passed mark width bs ok) .inside in
+          omega (arith, fit-body mark width bs s st (m .hit (getD (roots (s .dimension)) (s .root) []) (w .path) st z), room, l)
+      by (known k w q) (fitting z m x y h l) = h e
 
-          next : (s .root < length (roots d)) × (getD (roots d) (s .root) [] ≡ c .root)
-          next = next-root d is-d (g .cells) (s .root) (s .start) w c (it .good) axes (follows .0) f
-
-      -- the state after a leaf that fits
-      module _ (ft : Fits s d leaf) where
-        w : Stands d (g .cells) (s .root) (s .start)
-        w = stands-in (g .front) d (ft .dimension-fits)
-
-        after : Leafed d (g .cells) c (s .root) (leaf .start + leaf .size)
-        after = leafed d is-d (g .cells) (s .root) (s .start) w c (it .good) axes (subst (λ (k : ℕ). k < length (roots d)) (ft .root-fits) number-in)
-            (ap (λ (k : ℕ). getD (roots d) k []) (sym (ft .root-fits)) ∙ number-is) (sym leaf-start ∙ ft .start-fits) (leaf .start + leaf .size) (ap (λ (k : ℕ). k + leaf .size) (ft .start-fits) ∙ ap (λ (k : ℕ). s .start + k) leaf-size)
-
-        begun : {root st : ℕ} → Stands d (g .cells ++ c ∷ []) root st → Begins mark width (take (s .offset + n) sheet)
-        begun v =
-            let r = follows-begins (v .follows) (cells-within (v .cells-in)) in
-            let x = write mark width d (r .0) in
-            record { rest = x .sheet; count = length ((g .cells ++ c ∷ []) ++ r .0); good = record { dimension = d; is-dimension = is-d; cells = (g .cells ++ c ∷ []) ++ r .0; leaves = r .1; records = records-join (listed-records (v .cells-in) more-listed) (x .records); count = refl } }
-
-        going : {root st : ℕ} → Stands d (g .cells ++ c ∷ []) root st → Going mark width sheet (record { offset = s .offset + n; records = s .records + 1; dimension = d; root = root; start = st })
-        going v = record {
-          inside = omega (arith, it .inside, length-drop (s .offset) sheet, g .inside);
-          few = omega (arith, g .few, record-inside mark width (drop (s .offset) sheet) ok .1);
-          cells = g .cells ++ c ∷ [];
-          listed = more-listed;
-          count = length-append (g .cells) (c ∷ []) ∙ ap (λ (k : ℕ). k + 1) (g .count);
-          reading = subst (λ (k : ℕ). Read mark width sheet (s .offset + n) k) plus (next (g .reading) ok refl (begun v));
-          front = within is-d (omega (arith, length-append (g .cells) (c ∷ []))) v;
+  -- what is read with it is a front of a good sheet
+  module _ (d : ℕ) (k : isDimension d ≡ true) {root : ℕ} {cell : Next} (w : Ahead d (o .cells ++ c ∷ []) root cell) where
+    begun : Begins mark width (take (s .offset + n) sheet)
+    begun =
+        let r = follows-begins (w .follows) (cells-within (w .cells-in)) in
+        let x = write mark width d (r .0) in
+        record {
+          rest = x .sheet;
+          count = length ((o .cells ++ c ∷ []) ++ r .0);
+          good = record { dimension = d; is-dimension = k; cells = (o .cells ++ c ∷ []) ++ r .0; leaves = r .1; records = records-join (listed-records (w .cells-in) more-listed) (x .records); count = refl };
         }
-          where
-            plus : suc (s .records) ≡ s .records + 1
-            plus = omega arith
 
-  -- the ways out of the loop's body
+    behind-on : Going mark width sheet (stateOf (s .offset + n) (s .records + 1) d root cell)
+    behind-on = record {
+      cells = o .cells ++ c ∷ [];
+      behind = record {
+        inside = omega (arith, it .inside, length-drop (s .offset) sheet, o .behind .inside);
+        few = omega (arith, o .behind .few, record-inside mark width bs ok .1);
+        listed = more-listed;
+        count = length-append (o .cells) (c ∷ []) ∙ ap (λ (k : ℕ). k + 1) (o .behind .count);
+        reading = subst (λ (k : ℕ). Read mark width sheet (s .offset + n) k) plus (next (o .behind .reading) ok refl begun);
+      };
+      front = within k (omega (arith, length-append (o .cells) (c ∷ []))) w;
+    }
+      where
+        plus : suc (s .records) ≡ s .records + 1
+        plus = omega arith
+
+-- a record that fits: the state is in its dimension, and its code is that of the next leaf
+pub record Fitted (mark : List ℕ) (width : ℕ) (sheet : List ℕ) (cells : List TreeCell) (s : State) (r : Match) : Type 0 where
+  pub dimension-known : isDimension (s .dimension) ≡ true
+  pub ahead : Ahead (s .dimension) cells (s .root) (s .next)
+  pub root-left : s .root < length (roots (s .dimension))
+  pub match : Matched (getD (roots (s .dimension)) (s .root) []) (ahead .path) (behindMark mark (drop (s .offset) sheet)) r
+  pub ok : recordRefusal mark width (drop (s .offset) sheet) ≡ done
+  pub size : bodyOf width s r ≡ bodyLength width (behindMark mark (drop (s .offset) sheet))
+
+module _ {mark : List ℕ} {width : ℕ} {sheet : List ℕ} {s : State} (o : Opened mark width sheet s) {r : Match} (f : FitsIs mark width s (drop (s .offset) sheet) r) where
+  -- it does not fit
+  pub opened-leaf : s .offset < length sheet → r .length ≡ 0 → recordRefusal mark width (drop (s .offset) sheet) ≡ done → Checks mark width sheet (told refusedLeaf (s .offset) 0)
+  opened-leaf lt e ok = not-next (o .behind .reading) lt ok (not-begun o ok f e) refl
+
+  pub opened-fits : r .length ≢ 0 → Fitted mark width sheet (o .cells) s r
+  opened-fits h = by (o .ready) f
+    where
+      by : Ready mark width sheet (o .cells) s → FitsIs mark width s (drop (s .offset) sheet) r → Fitted mark width sheet (o .cells) s r
+      by q (no-dimension z x) = absurd (h x)
+      by q (unmarked m x) = absurd (h x)
+      by q (no-root z x) = absurd (h x)
+      by q (other m z x) = absurd (h x)
+      by q (cut-short m z l x) = absurd (h x)
+      by (never z x) (fitting y m q p e l) = absurd (y z)
+      by (known k w q) (fitting y m x p e l) = record {
+        dimension-known = k;
+        ahead = w;
+        root-left = left;
+        match = at;
+        ok = sym (record-marked mark width (drop (s .offset) sheet) m done (sym (unmarked-by-code width (behindMark mark (drop (s .offset) sheet)) passes (subst (λ (i : ℕ). i ≤ length (behindMark mark (drop (s .offset) sheet))) size l))));
+        size = size;
+      }
+        where
+          left : s .root < length (roots (s .dimension))
+          left = omega (arith, w .root-in, roots-count (s .dimension), x)
+
+          at : Matched (getD (roots (s .dimension)) (s .root) []) (w .path) (behindMark mark (drop (s .offset) sheet)) r
+          at = p .hit (getD (roots (s .dimension)) (s .root) []) (w .path) (w .stands left) e
+
+          size : bodyOf width s r ≡ bodyLength width (behindMark mark (drop (s .offset) sheet))
+          size = fit-body mark width (drop (s .offset) sheet) s (w .stands left) at
+
+          passes : codeRefusal (frontCode (behindMark mark (drop (s .offset) sheet))) ≡ done
+          passes = rw (at .first .code-of .is) (code-passes _ _ (at .first .code-of .good-root) (at .first .code-of .good-path))
+
+-- behind it
+pub record Moved (mark : List ℕ) (width : ℕ) (sheet : List ℕ) (s t : State) : Type 0 where
+  pub going-on : Going mark width sheet t
+  pub farther : s .offset < t .offset
+
+module _ {mark : List ℕ} {width : ℕ} {sheet : List ℕ} {s : State} (o : Opened mark width sheet s) {r : Match} (two : length mark ≡ 2) (f : Fitted mark width sheet (o .cells) s r) where
+  long : 2 + bodyOf width s r ≡ recordLength mark width (drop (s .offset) sheet)
+  unfolding recordLength
+  long = rw (two, f .size) refl
+
+  pub opened-ready : length sheet < 2 ^ 64 → MoveReady width s r
+  opened-ready h =
+      let room = record-inside mark width (drop (s .offset) sheet) (f .ok) in
+      record {
+        dimension = f .dimension-known;
+        ready = matched-ready (f .ahead .stands (f .root-left)) (f .match);
+        root-room = omega (arith, f .root-left, roots-few (s .dimension) (f .dimension-known));
+        offset-room = omega (arith, long, room .2, length-drop (s .offset) sheet, o .behind .inside);
+        records-room = omega (arith, o .behind .few, room .1, room .2, length-drop (s .offset) sheet);
+      }
+
+  the-cell : IsRecord.of (it o (f .ok)) ≡ treeCell (getD (roots (s .dimension)) (s .root) []) (steps (zeros (f .match .first .n) (f .ahead .path)))
+  the-cell = let e = one-path (code-of o (f .ok)) (f .match .first .code-of) in λ i. record { root = e .0 i; path = e .1 i }
+
+  pub opened-on : {t : State} → MoveIs width s r t → Moved mark width sheet s t
+  opened-on {t} m = by m
+    where
+      here : List ℕ
+      here = getD (roots (s .dimension)) (s .root) []
+
+      ax : length (it o (f .ok) .of .root) ≡ s .dimension
+      ax = ap (λ (x : TreeCell). length (x .root)) the-cell ∙ f .ahead .stands (f .root-left) .cell .rooted .axes
+
+      gone : {x : Onward} → AfterIs (s .dimension) (s .next) (r .depth) x → Gone (s .dimension) here (zeros (f .match .first .n) (f .ahead .path)) x
+      gone a = a .gone here (f .ahead .path) (f .match .first .n) (f .ahead .stands (f .root-left)) (f .match .depth-is)
+
+      to : {root : ℕ} {cell : Next} → Ahead (s .dimension) (o .cells ++ it o (f .ok) .of ∷ []) root cell → t ≡ stateOf (s .offset + (2 + bodyOf width s r)) (s .records + 1) (s .dimension) root cell → Moved mark width sheet s t
+      to {root} {cell} w e = subst (Moved mark width sheet s) (sym (e ∙ ap (λ (i : ℕ). stateOf (s .offset + i) (s .records + 1) (s .dimension) root cell) long))
+          (record { going-on = behind-on o (f .ok) (s .dimension) (f .dimension-known) w; farther = omega (arith, record-inside mark width (drop (s .offset) sheet) (f .ok) .1) })
+
+      by : MoveIs width s r t → Moved mark width sheet s t
+      by (steps-of.on a m e) = to (ahead-on (f .ahead) (f .root-left) _ (it o (f .ok) .good) ax (f .match .first .n) the-cell m (gone a)) e
+      by (steps-of.over a m q e) = to (ahead-over (f .ahead) (f .root-left) _ (it o (f .ok) .good) ax (f .match .first .n) the-cell m (gone a) q) e
+
+module _ {mark : List ℕ} {width : ℕ} {sheet : List ℕ} {s : State} (g : Going mark width sheet s) where
+  -- the loop's body: the record's bytes are those from the offset on
   module _ (lt : s .offset < length sheet) where
-    pub go-refused : {r : Stepped} → StepIs mark width s (drop (s .offset) sheet) r → r .refusal ≢ 0 → Checks mark width sheet (told (r .refusal) (s .offset) 0)
-    go-refused (own-refusal h e) x = record-refused (g .reading) lt h (ap (λ (k : ℕ). told k (s .offset) 0) e)
-    go-refused (read pos ok at (not-taken h e)) x = not-next (g .reading) lt ok (λ b. h (fits ok pos at b)) (ap (λ (k : ℕ). told k (s .offset) 0) e)
-    go-refused (read pos ok at (on h y e)) x = absurd (x (ap (λ (k : Stepped). k .refusal) e))
-    go-refused (read pos ok at (over h y e)) x = absurd (x (ap (λ (k : Stepped). k .refusal) e))
+    abbrev part : List ℕ
+    part = take (length sheet - s .offset) (drop (s .offset) sheet)
 
-    pub record Gone (t : State) : Type 0 where
-      pub going-on : Going mark width sheet t
-      pub farther : s .offset < t .offset
+    pub go-own : (x : ℕ) → x ≡ recordRefusal mark width part → x ≢ done → Checks mark width sheet (told x (s .offset) 0)
+    go-own x e h = let q = e ∙ ap (recordRefusal mark width) (part-all sheet (s .offset)) in record-refused (g .behind .reading) lt (λ z. h (q ∙ z)) (ap (λ (i : ℕ). told i (s .offset) 0) q)
 
-    gone : (ok : recordRefusal mark width (drop (s .offset) sheet) ≡ done) (root st : ℕ) → Going mark width sheet (record { offset = s .offset + n ok; records = s .records + 1; dimension = d ok; root = root; start = st })
-        → Gone (record { offset = s .offset + n ok; records = s .records + 1; dimension = d ok; root = root; start = st })
-    gone ok root st v = record { going-on = v; farther = omega (arith, record-inside mark width (drop (s .offset) sheet) ok .1) }
+    module _ {r : State} (op : OpenIs mark s part r) where
+      o : Opened mark width sheet r × (r .offset ≡ s .offset)
+      o = go-opened g (subst (λ (l : List ℕ). OpenIs mark s l r) (part-all sheet (s .offset)) op)
 
-    pub go-on : {r : Stepped} → StepIs mark width s (drop (s .offset) sheet) r → r .refusal ≡ 0 → Gone (r .state)
-    go-on (own-refusal h e) x = absurd (h (sym e ∙ x))
-    go-on (read pos ok at (not-taken h e)) x = absurd (omega (arith, sym e ∙ x))
-    go-on (read pos ok at (on h y e)) x = subst Gone (sym (ap (λ (k : Stepped). k .state) e)) (gone ok (s .root) (pos .start + pos .size) (going ok pos at h (after ok pos at h .stays y)))
-    go-on (read pos ok at (over h y e)) x = subst Gone (sym (ap (λ (k : Stepped). k .state) e)) (gone ok (s .root + 1) 0 (going ok pos at h (after ok pos at h .turns y)))
+      pub go-known : Known r
+      go-known = opened-known (o .0)
+
+      module _ {m : Match} (fit : FitsIs mark width r part m) where
+        f : FitsIs mark width r (drop (r .offset) sheet) m
+        f = subst (λ (l : List ℕ). FitsIs mark width r l m) (part-all sheet (s .offset) ∙ ap (λ (i : ℕ). drop i sheet) (sym (o .1))) fit
+
+        pub go-leaf : m .length ≡ 0 → (x : ℕ) → x ≡ recordRefusal mark width part → x ≡ done → Checks mark width sheet (told refusedLeaf (s .offset) 0)
+        go-leaf z x e q = rw (o .1) at (opened-leaf (o .0) f (omega (arith, o .1)) z (ap (recordRefusal mark width) (ap (λ (i : ℕ). drop i sheet) (o .1) ∙ sym (part-all sheet (s .offset))) ∙ sym e ∙ q))
+
+        module _ (two : length mark ≡ 2) (h : m .length ≢ 0) where
+          pub go-ready : length sheet < 2 ^ 64 → MoveReady width r m
+          go-ready l = opened-ready (o .0) two (opened-fits (o .0) f h) l
+
+          pub go-on : {t : State} → MoveIs width r m t → Moved mark width sheet s t
+          go-on v = let w = opened-on (o .0) two (opened-fits (o .0) f h) v in record { going-on = w .going-on; farther = omega (arith, w .farther, o .1) }
 
   -- the ways out behind the loop
   module _ (le : length sheet ≤ s .offset) where
     at-end : s .offset ≡ length sheet
-    at-end = omega (arith, g .inside)
+    at-end = omega (arith, g .behind .inside)
 
     all-listed : Listed mark width (g .cells) sheet
-    all-listed = subst (Listed mark width (g .cells)) (take-all (s .offset) sheet le) (g .listed)
+    all-listed = subst (Listed mark width (g .cells)) (take-all (s .offset) sheet le) (g .behind .listed)
 
     -- a good sheet has these cells and no more
     the-cells : {m : ℕ} (h : GoodSheet mark width sheet m) → h .cells ≡ g .cells
@@ -360,55 +417,53 @@ module _ {mark : List ℕ} {width : ℕ} {sheet : List ℕ} {s : State} (g : Goi
         let k = cut mark width [] all-listed (listed-good h) (sym (append-nil sheet)) in
         k .is ∙ ap (λ (l : List TreeCell). g .cells ++ l) (listed-empty mark width (k .listed) refl) ∙ append-nil (g .cells)
 
-    no-roots : (d : ℕ) → roots d ≡ [] → ⊥
-    no-roots d q = omega (arith, roots-some d, ap length q)
-
     over-in : {m : ℕ} (h : GoodSheet mark width sheet m) → (x : frontier.State) × Follows (frontier.state (roots (h .dimension)) []) (g .cells) x × (x .roots ≡ [])
     over-in h = good-follows (subst (Leaves (roots (h .dimension)) (greatestDepth (h .dimension))) (the-cells h) (h .leaves))
 
     pub go-fresh : s .dimension ≡ 0 → Checks mark width sheet (told refusedLeaf (s .offset) 0)
-    go-fresh z = ended-early (g .reading) at-end (λ m h. never (g .front) h) refl
+    go-fresh z = ended-early (g .behind .reading) at-end (λ m h. none (g .front) h) refl
       where
-        never : {m : ℕ} → Front (g .cells) s → GoodSheet mark width sheet m → ⊥
-        never (fresh a b r t) h =
-            let o = over-in h in
-            no-roots (h .dimension) (ap (λ (x : frontier.State). x .roots) (follows-one end (subst (λ (l : List TreeCell). Follows (frontier.state (roots (h .dimension)) []) l (o .0)) a (o .1))) ∙ o .2)
-        never (within a l w) h = omega (arith, dimension (s .dimension) a .two)
-
-    pub go-early : s .dimension ≢ 0 → s .root ≢ rootCount (s .dimension) → Checks mark width sheet (told refusedLeaf (s .offset) 0)
-    go-early z q = ended-early (g .reading) at-end (λ m h. never (g .front) h) refl
-      where
-        never : {m : ℕ} → Front (g .cells) s → GoodSheet mark width sheet m → ⊥
-        never (fresh a b r t) h = z b
-        never (within a l w) h =
-            let o = over-in h in
-            let e : h .dimension ≡ s .dimension = same-dimension l (subst (CellsIn (h .dimension)) (the-cells h) (leaves-cells (h .dimension) (h .is-dimension) (h .leaves))) (w .cells-in) in
-            let f : Follows (frontier.state (roots (s .dimension)) []) (g .cells) (o .0) = subst (λ (d : ℕ). Follows (frontier.state (roots d) []) (g .cells) (o .0)) e (o .1) in
-            let none : drop (s .root) (roots (s .dimension)) ≡ [] = ap (λ (x : frontier.State). x .roots) (follows-one (w .follows) f) ∙ o .2 in
-            q (omega (arith, w .root-in, length-drop (s .root) (roots (s .dimension)), ap length none, roots-count (s .dimension)))
+        none : {m : ℕ} → Front (g .cells) s → GoodSheet mark width sheet m → ⊥
+        none (fresh a b) h =
+            let x = over-in h in
+            let no-roots : roots (h .dimension) ≡ [] = ap (λ (x : frontier.State). x .roots) (follows-one end (subst (λ (l : List TreeCell). Follows (frontier.state (roots (h .dimension)) []) l (x .0)) a (x .1))) ∙ x .2 in
+            omega (arith, roots-some (h .dimension), ap length no-roots)
+        none (within a l w) h = some-dimension (s .dimension) a z
 
     pub go-dimension : s .dimension ≢ 0 → isDimension (s .dimension) ≡ true
     go-dimension z = by (g .front)
       where
         by : Front (g .cells) s → isDimension (s .dimension) ≡ true
-        by (fresh a b r t) = absurd (z b)
+        by (fresh a b) = absurd (z b)
         by (within a l w) = a
+
+    pub go-early : s .dimension ≢ 0 → s .root ≢ rootCount (s .dimension) → Checks mark width sheet (told refusedLeaf (s .offset) 0)
+    go-early z q = ended-early (g .behind .reading) at-end (λ m h. none (g .front) h) refl
+      where
+        none : {m : ℕ} → Front (g .cells) s → GoodSheet mark width sheet m → ⊥
+        none (fresh a b) h = z b
+        none (within a l w) h =
+            let x = over-in h in
+            let e : h .dimension ≡ s .dimension = same-dimension l (subst (CellsIn (h .dimension)) (the-cells h) (leaves-cells (h .dimension) (h .is-dimension) (h .leaves))) (w .cells-in) in
+            let f : Follows (frontier.state (roots (s .dimension)) []) (g .cells) (x .0) = subst (λ (d : ℕ). Follows (frontier.state (roots d) []) (g .cells) (x .0)) e (x .1) in
+            let none-left : drop (s .root) (roots (s .dimension)) ≡ [] = ap (λ (x : frontier.State). x .roots) (follows-one (w .follows) f) ∙ x .2 in
+            q (omega (arith, w .root-in, length-drop (s .root) (roots (s .dimension)), ap length none-left, roots-count (s .dimension)))
 
     pub go-good : s .dimension ≢ 0 → s .root ≡ rootCount (s .dimension) → Checks mark width sheet (told done 0 (s .records))
     go-good z q = by (g .front)
       where
         by : Front (g .cells) s → Checks mark width sheet (told done 0 (s .records))
-        by (fresh a b r t) = absurd (z b)
+        by (fresh a b) = absurd (z b)
         by (within a l w) =
             let past : length (roots (s .dimension)) ≤ s .root = omega (arith, roots-count (s .dimension)) in
-            let none : drop (s .root) (roots (s .dimension)) ≡ [] = drop-of-length-le (roots (s .dimension)) past in
+            let none-left : drop (s .root) (roots (s .dimension)) ≡ [] = drop-of-length-le (roots (s .dimension)) past in
             good (record {
               dimension = s .dimension;
               is-dimension = a;
               cells = g .cells;
               records = listed-records (w .cells-in) all-listed;
-              count = g .count;
-              leaves = follows-good (subst (λ (rs : List (List ℕ)). Follows (frontier.state (roots (s .dimension)) []) (g .cells) (frontier.state rs (w .path))) none (w .follows)) (cells-within (w .cells-in));
+              count = g .behind .count;
+              leaves = follows-good (subst (λ (rs : List (List ℕ)). Follows (frontier.state (roots (s .dimension)) []) (g .cells) (frontier.state rs (w .path))) none-left (w .follows)) (cells-within (w .cells-in));
             }) refl
 
 -- an answer by its fields

@@ -3,37 +3,31 @@ use mathlib.Core.Path.{_≡_, refl, sym, ap, _∙_, subst}
 use mathlib.Core.Bool.{Bool, true, false, _&&_}
 use mathlib.Core.List.{List, [], _∷_}
 use mathlib.Core.Logic.{_≢_}
-use Prim.Native.Nat.{ℕ, suc, _+_, _-_, _*_, _^_, _≤_, _<_, min}
+use Prim.Native.Nat.{ℕ, suc, _+_, _-_, _*_, _≤_, _<_, min}
 use native.Mathlib.Omega.{arith}
 use native.Mathlib.Nat.{mul-le-mul}
 use native.Mathlib.Numerals.{add-one}
 use lib.Dec.{eqb, leb}
 use lib.ListN.{length, getD, take, drop, length-take, length-drop}
-use lib.Pow.{pow-lt}
 use lib.Seq.{take-all}
 use borrow.Author.Tests.{eq-eqb, ne-eqb, le-leb, lt-leb, leb-true}
-use Rattle.dimension.specs.Sizes.{isDimension, greatestDepth}
-use Rattle.dimension.specs.Laws.{Dimension, dimension, depth-small}
-use Rattle.bisection.specs.Refusals.{done, codeRefusal}
+use Rattle.dimension.specs.Sizes.{isDimension}
+use Rattle.bisection.specs.Refusals.{done}
 use Rattle.bisection.specs.Theorems.Checked.{both}
 use Rattle.bisection.specs.Theorems.Ladders.{first-is, all-hold, holds, fails, past, stops, own-last, held-at}
-use Rattle.bisection.specs.Theorems.CodePaths.{path-steps}
 use Rattle.codes.specs.declared.Head.{Head}
 use Rattle.codes.specs.Fronts.{frontRefusal, frontDimension, frontLength, frontCode, innerRefusal, HeadIs, Headed}
-use Rattle.codes.specs.Fronts.Laws.{front-is-front, front-code-dimension, front-headed, front-root}
-use Rattle.positions.specs.declared.Position.{Position}
-use Rattle.positions.specs.Positions.{PositionIs}
-use Rattle.positions.specs.RootNumbers.{roots-few}
+use Rattle.codes.specs.Fronts.Laws.{front-is-front, front-headed, front-known}
+use Rattle.next.specs.declared.Next.{Next}
+use Rattle.next.specs.declared.Match.{Match}
+use Rattle.next.specs.Nexts.{FirstIs, MatchIs}
 use Rattle.sheets.specs.declared.Edition.{Edition}
 use Rattle.sheets.specs.declared.SheetAnswer.{SheetAnswer}
 use Rattle.sheets.specs.declared.State.{State}
-use Rattle.sheets.specs.declared.Stepped.{Stepped}
-use Rattle.sheets.specs.declared.Body.{Body}
 use Rattle.sheets.specs.declared.RecordParts.{RecordParts}
 use Rattle.sheets.specs.Sheets.{sampleWidth, refusedRecord, beginsWith, behindMark, isMarked, bodyLength, recordLength, unmarkedRefusal, recordRefusal, Checks, SheetIs}
-use Rattle.sheets.specs.Steps.{markOf, IsFirst, BodyIs, PartsAre, TakeReady, TakeIs, StepReady, StepIs, own-refusal, read}
-use Rattle.sheets.specs.Theorems.Reading.{Passed, passed, code-inside}
-use Rattle.sheets.specs.Theorems.Line.{part-inside}
+use Rattle.sheets.specs.Steps.{markOf, IsFirst, PartsAre, stateOf, OpenIs, opens, shut}
+use Rattle.sheets.specs.Theorems.Reading.{passed}
 
 -- the samples' length as the code computes it, and that it is small
 pub samples-small : (width d : ℕ) → width < 256 → d < 256 → width * suc d ≤ 65536
@@ -92,66 +86,71 @@ pub marked-long : (mark bs : List ℕ) → isMarked mark bs ≡ true → length 
 unfolding behindMark
 marked-long mark bs m = omega (arith, length-drop (length mark) bs, marked-two mark bs m)
 
--- behind the mark
-module _ (width : ℕ) (bs : List ℕ) where
-  body-refused : (x : ℕ) → x ≢ done → unmarkedRefusal width bs ≡ x → BodyIs width bs (record { refusal = x; dimension = 0; code = 0; length = 0 })
-  body-refused x n e = record { refusal-is = sym e; dimension-is = λ q. absurd (n (sym e ∙ q)); code-is = λ q. absurd (n (sym e ∙ q)); length-is = λ q. absurd (n (sym e ∙ q)) }
+-- behind the mark: each way out is a test that fails behind tests that hold
+module _ (width : ℕ) (bs : List ℕ) (r : Head) (is : HeadIs bs r) where
+  pub body-head : r .refusal ≢ done → r .refusal ≡ unmarkedRefusal width bs
+  unfolding unmarkedRefusal
+  body-head n = sym (first-is (stops (sym (is .refusal)) n))
 
-  module _ (r : Head) (is : HeadIs bs r) where
-    pub body-head : r .refusal ≢ done → BodyIs width bs (record { refusal = r .refusal; dimension = 0; code = 0; length = 0 })
+  module _ (e : r .refusal ≡ done) where
+    passes : frontRefusal bs ≡ done
+    passes = sym (is .refusal) ∙ e
+
+    size : r .length ≡ frontLength bs
+    size = is .length passes
+
+    pub body-cut : length bs < r .length → refusedRecord ≡ unmarkedRefusal width bs
     unfolding unmarkedRefusal
-    body-head n = body-refused (r .refusal) n (first-is (stops (sym (is .refusal)) n))
+    body-cut h = sym (first-is (past passes (fails (lt-leb (frontLength bs) (length bs) (omega (arith, size))))))
 
-    module _ (e : r .refusal ≡ done) where
-      passes : frontRefusal bs ≡ done
-      passes = sym (is .refusal) ∙ e
+    module _ (h : r .length ≤ length bs) where
+      room : leb (frontLength bs) (length bs) ≡ true
+      room = le-leb (frontLength bs) (length bs) (omega (arith, size))
 
-      size : r .length ≡ frontLength bs
-      size = is .length passes
+      front : take (r .length) bs ≡ frontCode bs
+      front = ap (λ (n : ℕ). take n bs) size ∙ front-is-front bs
 
-      pub body-cut : length bs < r .length → BodyIs width bs (record { refusal = refusedRecord; dimension = 0; code = 0; length = 0 })
-      unfolding unmarkedRefusal
-      body-cut h = body-refused refusedRecord (omega arith) (first-is (past passes (fails (lt-leb (frontLength bs) (length bs) (omega (arith, size))))))
+      pub body-headed : Headed (take (r .length) bs)
+      body-headed = rw front (front-headed bs (omega (arith, size)) passes)
 
-      module _ (h : r .length ≤ length bs) where
-        room : frontLength bs ≤ length bs
-        room = omega (arith, size)
+      module _ (x : ℕ) (b : x ≡ innerRefusal (take (r .length) bs)) where
+        inner : innerRefusal (frontCode bs) ≡ x
+        inner = sym (rw front at b)
 
-        front : take (r .length) bs ≡ frontCode bs
-        front = ap (λ (n : ℕ). take n bs) size ∙ front-is-front bs
+        pub body-inner : x ≢ done → x ≡ unmarkedRefusal width bs
+        unfolding unmarkedRefusal
+        body-inner n = sym (first-is (past passes (holds room (stops inner n))))
 
-        pub body-headed : Headed (take (r .length) bs)
-        body-headed = rw front (front-headed bs room passes)
+        module _ (z : x ≡ done) (n : ℕ) (s : n ≡ width * suc (r .dimension)) where
+          whole : r .length + n ≡ bodyLength width bs
+          unfolding bodyLength
+          whole = rw (s, size, is .dimension passes) refl
 
-        module _ (x : ℕ) (b : x ≡ innerRefusal (take (r .length) bs)) where
-          inner : innerRefusal (frontCode bs) ≡ x
-          inner = sym (rw front at b)
-
-          pub body-own : x ≢ done → BodyIs width bs (record { refusal = x; dimension = 0; code = 0; length = 0 })
+          pub body-samples : length bs < r .length + n → refusedRecord ≡ unmarkedRefusal width bs
           unfolding unmarkedRefusal
-          body-own n = body-refused x n (first-is (past passes (holds (le-leb (frontLength bs) (length bs) room) (stops inner n))))
+          body-samples l = sym (first-is (past passes (holds room (past (inner ∙ z) (fails (lt-leb (bodyLength width bs) (length bs) (omega (arith, whole))))))))
 
-          module _ (z : x ≡ done) (n : ℕ) (s : n ≡ r .length + width * suc (r .dimension)) where
-            whole : n ≡ bodyLength width bs
-            unfolding bodyLength
-            whole = s ∙ rw (size, is .dimension passes) refl
+          pub body-done : r .length + n ≤ length bs → done ≡ unmarkedRefusal width bs
+          unfolding unmarkedRefusal
+          body-done l = sym (first-is (past passes (holds room (past (inner ∙ z) (holds (le-leb (bodyLength width bs) (length bs) (omega (arith, whole))) all-hold)))))
 
-            pub body-samples : length bs < n → BodyIs width bs (record { refusal = refusedRecord; dimension = 0; code = 0; length = 0 })
-            unfolding unmarkedRefusal
-            body-samples l = body-refused refusedRecord (omega arith) (first-is (past passes (holds (le-leb (frontLength bs) (length bs) room) (past (inner ∙ z) (fails (lt-leb (bodyLength width bs) (length bs) (omega (arith, whole))))))))
+-- the record by its mark
+module _ (mark : List ℕ) (width : ℕ) (bs : List ℕ) where
+  pub record-unmarked : isMarked mark bs ≡ false → refusedRecord ≡ recordRefusal mark width bs
+  unfolding recordRefusal
+  record-unmarked e = sym (first-is (fails e))
 
-            pub body-done : n ≤ length bs → BodyIs width bs (record { refusal = done; dimension = r .dimension; code = r .length; length = n })
-            unfolding unmarkedRefusal
-            body-done l = record {
-              refusal-is = sym (first-is (past passes (holds (le-leb (frontLength bs) (length bs) room) (past (inner ∙ z) (holds (le-leb (bodyLength width bs) (length bs) (omega (arith, whole))) all-hold)))));
-              dimension-is = λ q. is .dimension passes;
-              code-is = λ q. size;
-              length-is = λ q. whole;
-            }
+  pub record-marked : isMarked mark bs ≡ true → (x : ℕ) → x ≡ unmarkedRefusal width (behindMark mark bs) → x ≡ recordRefusal mark width bs
+  unfolding recordRefusal
+  record-marked m x e = e ∙ sym (first-is (holds m (own-last (unmarkedRefusal width (behindMark mark bs)))))
 
 -- the head behind a mark of two bytes, as the code reads it
 pub head-behind : {r : Head} (first second : ℕ) (bs : List ℕ) → HeadIs (take (length bs - 2) (drop 2 bs)) r → HeadIs (behindMark (twoBytes first second) bs) r
 head-behind {r} first second bs is = subst (λ (l : List ℕ). HeadIs l r) (part-marked first second bs) is
+
+-- and so the match behind it, in the dimension that the state has
+pub match-behind : {d e : ℕ} {n : Next} {m : Match} (first second : ℕ) (bs : List ℕ) → d ≡ e → MatchIs d n (take (length bs - 2) (drop 2 bs)) m → MatchIs e n (behindMark (twoBytes first second) bs) m
+match-behind {d} {e} {n} {m} first second bs q is = subst (λ (l : List ℕ). MatchIs e n l m) (part-marked first second bs) (subst (λ (i : ℕ). MatchIs i n (take (length bs - 2) (drop 2 bs)) m) q is)
 
 -- the parts of a record that passes its own tests
 module _ (mark : List ℕ) (width : ℕ) (bs : List ℕ) (e : recordRefusal mark width bs ≡ done) where
@@ -178,74 +177,24 @@ module _ (mark : List ℕ) (width : ℕ) (bs : List ℕ) (e : recordRefusal mark
     pub parts-are : (n : ℕ) → n ≡ length mark + (r .length + width * suc (r .dimension)) → PartsAre mark width bs (record { dimension = r .dimension; code = r .length; whole = n })
     parts-are n q = record { dimension-is = is .dimension head-passes; code-is = is .length head-passes; whole-is = q ∙ parts-whole }
 
--- one record
-module _ (mark : List ℕ) (width : ℕ) (s : State) (bs : List ℕ) where
-  pub step-unmarked : isMarked mark bs ≡ false → (t : State) → StepIs mark width s bs (record { refusal = refusedRecord; state = t })
-  step-unmarked e t = own-refusal (λ q. omega (arith, sym unmarked ∙ q)) (sym unmarked)
-    where
-      unmarked : recordRefusal mark width bs ≡ refusedRecord
-      unmarked = unfold recordRefusal in first-is (fails e)
+-- the ways out of `opened`
+module _ (mark : List ℕ) (s : State) (bs : List ℕ) (z : s .dimension ≡ 0) where
+  pub open-unmarked : isMarked mark bs ≡ false → OpenIs mark s bs s
+  open-unmarked m = shut z (λ width e. omega (arith, record-unmarked mark width bs m, e)) refl
 
-  module _ (m : isMarked mark bs ≡ true) (rest : List ℕ) (e : rest ≡ behindMark mark bs) where
-    past-mark : recordRefusal mark width bs ≡ unmarkedRefusal width rest
-    unfolding recordRefusal
-    past-mark = first-is (holds m (own-last (unmarkedRefusal width (behindMark mark bs)))) ∙ ap (unmarkedRefusal width) (sym e)
+  module _ (m : isMarked mark bs ≡ true) (h : Head) (is : HeadIs (behindMark mark bs) h) where
+    pub open-refused : h .refusal ≢ done → OpenIs mark s bs s
+    open-refused n = shut z (λ width e. n (body-head width (behindMark mark bs) h is n ∙ record-marked mark width bs m _ refl ∙ e)) refl
 
-    pub two-left : 2 ≤ length rest
-    two-left = rw e (marked-two mark bs m)
+    module _ (e : h .refusal ≡ done) where
+      front-passes : frontRefusal (behindMark mark bs) ≡ done
+      front-passes = sym (is .refusal) ∙ e
 
-    module _ (b : Body) (is : BodyIs width rest b) where
-      pub step-own : b .refusal ≢ done → (t : State) → StepIs mark width s bs (record { refusal = b .refusal; state = t })
-      step-own n t = own-refusal (λ q. n (is .refusal-is ∙ sym past-mark ∙ q)) (is .refusal-is ∙ sym past-mark)
+      pub open-known : isDimension (h .dimension) ≡ true
+      open-known = rw (is .dimension front-passes) (front-known (behindMark mark bs) front-passes)
 
-      module _ (z : b .refusal ≡ done) where
-        ok : unmarkedRefusal width rest ≡ done
-        ok = sym (is .refusal-is) ∙ z
-
-        p : Passed width rest
-        p = passed width rest ok
-
-        code-front : take (b .code) rest ≡ frontCode rest
-        code-front = ap (λ (n : ℕ). take n rest) (is .code-is ok) ∙ front-is-front rest
-
-        pub step-code-room : b .code ≤ length rest
-        step-code-room = omega (arith, is .code-is ok, code-inside width rest ok)
-
-        pub step-code : codeRefusal (take (b .code) rest) ≡ done
-        step-code = rw code-front (p .code)
-
-        step-length : length mark + b .length ≡ recordLength mark width bs
-        unfolding recordLength
-        step-length = rw (← e) (ap (λ (n : ℕ). length mark + n) (is .length-is ok))
-
-        pub step-long : b .length ≤ length rest
-        step-long = omega (arith, is .length-is ok, p .inside)
-
-        module _ (leaf : Position) (at : PositionIs (take (b .code) rest) leaf) where
-          axes : length (at .root) ≡ b .dimension
-          axes = sym (front-root (at .code-of)) ∙ ap frontDimension code-front ∙ front-code-dimension rest ∙ sym (is .dimension-is ok)
-
-          is-dimension : isDimension (b .dimension) ≡ true
-          is-dimension = rw axes at (at .code-of .good-root .dimension)
-
-          end-small : leaf .start + leaf .size < 2 ^ 64
-          end-small =
-              let inside = part-inside (greatestDepth (length (at .root))) (at .path) (path-steps (at .code-of .good-path)) (at .code-of .good-path .depth) in
-              let small = depth-small (length (at .root)) (dimension (length (at .root)) (at .code-of .good-root .dimension)) in
-              omega (arith, at .start-is, at .size-is, inside, pow-lt {i = greatestDepth (length (at .root))} {j = 64} (omega arith))
-
-          pub step-ready : StepReady s bs → length mark + length rest ≤ length bs → (n : ℕ) → n ≡ length mark + b .length → TakeReady s (b .dimension) leaf n
-          step-ready k l n q = record {
-            dimension = is-dimension;
-            root-room = omega (arith, at .number, roots-few (length (at .root)) (at .code-of .good-root .dimension));
-            end-room = end-small;
-            offset-room = omega (arith, k .room, step-long);
-            records-room = omega (arith, k .room, k .few, two-left);
-          }
-
-          pub step-read : {r : Stepped} (n : ℕ) → n ≡ length mark + b .length → TakeIs s (b .dimension) leaf n r → StepIs mark width s bs r
-          step-read {r} n q t = read leaf (past-mark ∙ ok) (subst (λ (c : List ℕ). PositionIs c leaf) (code-front ∙ ap frontCode e) at)
-              (subst (λ (i : ℕ). TakeIs s (frontDimension (behindMark mark bs)) leaf i r) (q ∙ step-length) (subst (λ (d : ℕ). TakeIs s d leaf n r) (is .dimension-is ok ∙ ap frontDimension e) t))
+      pub open-first : (n : Next) (d : ℕ) → d ≡ h .dimension → FirstIs d 0 n → OpenIs mark s bs (stateOf (s .offset) (s .records) (h .dimension) 0 n)
+      open-first n d q f = opens z front-passes (is .dimension front-passes) (subst (λ (i : ℕ). FirstIs i 0 n) q f) refl
 
 -- what is checked of the edition of document 01 is what the sheet check answers
 pub first-checks : {sheet : List ℕ} {r : SheetAnswer} (e : Edition) → IsFirst e → Checks (markOf e) (e .width) sheet r → SheetIs sheet r
@@ -254,9 +203,6 @@ first-checks {sheet} {r} e f c = subst (λ (m : List ℕ). Checks m sampleWidth 
 -- the rest of a slice
 pub part-all : (s : List ℕ) (at : ℕ) → take (length s - at) (drop at s) ≡ drop at s
 part-all s at = take-all (length s - at) (drop at s) (omega (arith, length-drop at s))
-
-pub step-onward : {mark : List ℕ} {width : ℕ} {s : State} {r : Stepped} (sheet : List ℕ) (at : ℕ) → StepIs mark width s (take (length sheet - at) (drop at sheet)) r → StepIs mark width s (drop at sheet) r
-step-onward {mark} {width} {s} {r} sheet at i = subst (λ (l : List ℕ). StepIs mark width s l r) (part-all sheet at) i
 
 pub least : (n m : ℕ) → n ≤ m → min n m ≡ n
 least n m h = omega arith

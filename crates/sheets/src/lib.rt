@@ -1,14 +1,16 @@
-// The sheet layer: records, and the check of a whole sheet. It knows a code by what the code layer says of it: its
-// head, its body, and where its treeCell stands on the line. The check is a loop over one step, whose state is small.
+// The sheet layer: records, and the check of a whole sheet. It knows a code by what the code layer says of it: its head, its body,
+// and whether it is that of the next leaf. After a leaf the next one is known, so a good record is recognised by comparing its
+// code with that of the next cell; only where they differ do the record's own tests run, to name the refusal.
 ghost use mathlib.Core.Path.{_≡_};
 ghost use Prim.Native.Nat.{suc, _*_, _≤_};
 ghost use lib.ListN.{length};
 ghost use Rattle.bisection.specs.Refusals.{done};
-ghost use Rattle.sheets.specs.Sheets.{isMarked, recordRefusal, SheetIs};
-ghost use Rattle.sheets.specs.Steps.{markOf, IsFirst, BodyIs, PartsAre, TakeReady, TakeIs, StepReady, StepIs};
+ghost use Rattle.sheets.specs.Sheets.{isMarked, unmarkedRefusal, recordRefusal, SheetIs};
+ghost use Rattle.sheets.specs.Steps.{markOf, IsFirst, PartsAre, OpenIs, Known, FitsIs, MoveReady, MoveIs};
 use bisection::DONE;
 use dimension::Dim;
-use positions::Position;
+use next::Match;
+use next::Next;
 
 pub const REFUSED_RECORD: u8 = 13;
 
@@ -43,27 +45,14 @@ pub struct SheetAnswer {
     pub records: usize,
 }
 
-// What has been read: how far, how many records, and where the next leaf starts. Dimension 0: no record yet.
+// What has been read: how far, how many records, and the next cell with its root's number. Dimension 0: no record yet, and the
+// next cell is none. The running position on the line is the root's number and the next cell's path, in parts of its size.
 struct State {
     offset: usize,
     records: usize,
     dimension: u8,
     root: usize,
-    start: u64,
-}
-
-// A step's refusal, or what has been read after it.
-struct Stepped {
-    refusal: u8,
-    state: State,
-}
-
-// The refusal of a record behind its mark, or its dimension and the lengths of its code and of code and samples.
-struct Body {
-    refusal: u8,
-    dimension: u8,
-    code: usize,
-    length: usize,
+    next: Next,
 }
 
 // A record's dimension, and how many bytes its code has, and the whole record.
@@ -94,53 +83,36 @@ fn samples_length(width: u8, dimension: u8) -> usize
 }
 
 // The tests behind the mark, in document 01's order.
-fn read_body(width: u8, bytes: &[u8]) -> Body
+fn body_refusal(width: u8, bytes: &[u8]) -> u8
     requires { ⌜ 2 ≤ length (now bytes) ⌝ }
-    ensures { λ r. ⌜ BodyIs width (now (bytes .entry)) r ⌝ }
+    ensures { λ r. ⌜ r ≡ unmarkedRefusal width (now (bytes .entry)) ⌝ }
 {
     let head = codes::code_head(bytes);
     if head.refusal != DONE {
-        return Body {
-            refusal: head.refusal,
-            dimension: 0,
-            code: 0,
-            length: 0,
-        };
+        return head.refusal;
     }
     let code = head.length;
     if bytes.len() < code {
-        return Body {
-            refusal: REFUSED_RECORD,
-            dimension: 0,
-            code: 0,
-            length: 0,
-        };
+        return REFUSED_RECORD;
     }
     let refusal = codes::code_body(&bytes[..code]);
     if refusal != DONE {
-        return Body {
-            refusal,
-            dimension: 0,
-            code: 0,
-            length: 0,
-        };
+        return refusal;
     }
-    let dimension = head.dimension;
-    let length = code + samples_length(width, dimension);
-    if bytes.len() < length {
-        return Body {
-            refusal: REFUSED_RECORD,
-            dimension: 0,
-            code: 0,
-            length: 0,
-        };
+    if bytes.len() < code + samples_length(width, head.dimension) {
+        return REFUSED_RECORD;
     }
-    Body {
-        refusal: DONE,
-        dimension,
-        code,
-        length,
+    DONE
+}
+
+// A record's own tests.
+fn record_refusal(edition: Edition, bytes: &[u8]) -> u8
+    ensures { λ r. ⌜ r ≡ recordRefusal (markOf edition) (edition .width) (now (bytes .entry)) ⌝ }
+{
+    if !is_marked(edition, bytes) {
+        return REFUSED_RECORD;
     }
+    body_refusal(edition.width, &bytes[MARK_LENGTH..])
 }
 
 // The parts of a record that passes its own tests.
@@ -158,76 +130,88 @@ pub fn record_parts(edition: Edition, bytes: &[u8]) -> RecordParts
     }
 }
 
-// A leaf of a dimension at a position, whose record has so many bytes: it is the next one where it starts where the
-// one before it ends.
-fn take_leaf(state: State, dimension: u8, leaf: Position, length: usize) -> Stepped
-    requires { ⌜ TakeReady state dimension leaf length ⌝ }
-    ensures { λ r. ⌜ TakeIs state dimension leaf length r ⌝ }
+// The state in the dimension that the first record names.
+fn opened(edition: Edition, state: State, bytes: &[u8]) -> State
+    ensures { λ r. ⌜ OpenIs (markOf edition) state (now (bytes .entry)) r ⌝ }
 {
-    let refused = Stepped {
-        refusal: REFUSED_LEAF,
-        state,
-    };
     if state.dimension != 0 {
-        if state.dimension != dimension {
-            return refused;
-        }
+        return state;
     }
-    if leaf.root != state.root {
-        return refused;
+    if !is_marked(edition, bytes) {
+        return state;
     }
-    if leaf.start != state.start {
-        return refused;
+    let head = codes::code_head(&bytes[MARK_LENGTH..]);
+    if head.refusal != DONE {
+        return state;
     }
-    let offset = state.offset + length;
+    let dimension = head.dimension;
+    let next = next::first(Dim::checked(dimension), 0);
+    State {
+        offset: state.offset,
+        records: state.records,
+        dimension,
+        root: 0,
+        next,
+    }
+}
+
+// Whether the bytes begin with the record of the next leaf: what its code matches, of length 0 where they do not.
+fn fits(edition: Edition, state: State, bytes: &[u8]) -> Match
+    requires { ⌜ Known state ⌝ }
+    ensures { λ r. ⌜ FitsIs (markOf edition) (edition .width) state (now (bytes .entry)) r ⌝ }
+{
+    let none = Match { length: 0, depth: 0 };
+    if state.dimension == 0 {
+        return none;
+    }
+    if !is_marked(edition, bytes) {
+        return none;
+    }
+    let dim = Dim::checked(state.dimension);
+    if state.root == dim.roots() {
+        return none;
+    }
+    let rest = &bytes[MARK_LENGTH..];
+    let found = next::matches(state.next, dim, rest);
+    if found.length == 0 {
+        return none;
+    }
+    if rest.len() < found.length + samples_length(edition.width, state.dimension) {
+        return none;
+    }
+    found
+}
+
+// The state after a record that fits: the next cell is the one after its leaf, or the next root.
+fn moved(edition: Edition, state: State, found: Match) -> State
+    requires { ⌜ MoveReady (edition .width) state found ⌝ }
+    ensures { λ r. ⌜ MoveIs (edition .width) state found r ⌝ }
+{
+    let dimension = state.dimension;
+    let dim = Dim::checked(dimension);
+    let samples = samples_length(edition.width, dimension);
+    let offset = state.offset + (MARK_LENGTH + (found.length + samples));
     let records = state.records + 1;
-    let end = leaf.start + leaf.size;
-    if end == positions::stretch(Dim::checked(dimension)) {
-        let root = state.root + 1;
-        return Stepped {
-            refusal: DONE,
-            state: State {
-                offset,
-                records,
-                dimension,
-                root,
-                start: 0,
-            },
-        };
-    }
-    Stepped {
-        refusal: DONE,
-        state: State {
+    let onward = next::after(state.next, dim, found.depth);
+    if onward.more {
+        let next = onward.next;
+        return State {
             offset,
             records,
             dimension,
             root: state.root,
-            start: end,
-        },
-    }
-}
-
-// One record: `bytes` are those from the offset on.
-fn step(edition: Edition, state: State, bytes: &[u8]) -> Stepped
-    requires { ⌜ StepReady state (now bytes) ⌝ }
-    ensures { λ r. ⌜ StepIs (markOf edition) (edition .width) state (now (bytes .entry)) r ⌝ }
-{
-    if !is_marked(edition, bytes) {
-        return Stepped {
-            refusal: REFUSED_RECORD,
-            state,
+            next,
         };
     }
-    let rest = &bytes[MARK_LENGTH..];
-    let body = read_body(edition.width, rest);
-    if body.refusal != DONE {
-        return Stepped {
-            refusal: body.refusal,
-            state,
-        };
+    let root = state.root + 1;
+    let next = next::first(dim, root);
+    State {
+        offset,
+        records,
+        dimension,
+        root,
+        next,
     }
-    let leaf = positions::position_of(&rest[..body.code]);
-    take_leaf(state, body.dimension, leaf, MARK_LENGTH + body.length)
 }
 
 // A refusal of the record at an offset.
@@ -246,20 +230,27 @@ pub fn sheet_check(sheet: &[u8]) -> SheetAnswer
     ensures { λ r. ⌜ SheetIs (now (sheet .entry)) r ⌝ }
 {
     let edition = first_edition();
+    let none = next::first(Dim::Two, 0);
     let mut state = State {
         offset: 0,
         records: 0,
         dimension: 0,
         root: 0,
-        start: 0,
+        next: none,
     };
     while state.offset < sheet.len() {
         let offset = state.offset;
-        let next = step(edition, state, &sheet[offset..]);
-        if next.refusal != DONE {
-            return refused(next.refusal, offset);
+        let bytes = &sheet[offset..];
+        let ready = opened(edition, state, bytes);
+        let found = fits(edition, ready, bytes);
+        if found.length == 0 {
+            let refusal = record_refusal(edition, bytes);
+            if refusal != DONE {
+                return refused(refusal, offset);
+            }
+            return refused(REFUSED_LEAF, offset);
         }
-        state = next.state;
+        state = moved(edition, ready, found);
     }
     if state.dimension == 0 {
         return refused(REFUSED_LEAF, state.offset);

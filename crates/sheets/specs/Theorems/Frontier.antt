@@ -2,21 +2,14 @@
 -- turn the last 0 into 1, or, where there is no 0, go to the next root; the next leaf is the frontier followed by
 -- zeros only. A path is kept here with its last step first, a step 1 as true, so that the rule reads it from its end.
 use mathlib.Core.Path.{_≡_, refl, sym, ap, _∙_, subst}
-use mathlib.Core.Bool.{Bool, true, false, cond}
+use mathlib.Core.Bool.{Bool, true, false}
 use mathlib.Core.List.{List, [], _∷_, _++_}
 use Prim.Native.Nat.{ℕ, zero, suc, _+_, _≤_}
 use native.Mathlib.Omega.{arith}
 use lib.ListN.{length, length-append}
+use Rattle.next.specs.Paths.{steps, steps-length, zeros, zeros-length, stripped}
 use Rattle.sheets.specs.Forests.{TreeCell, treeCell, childOf, NoDeeper, Leaves, rootCells}
 use Rattle.sheets.specs.Theorems.Todo.{Next, here, down, Run, stop, step, begins-run, run-begins, good-run, run-good}
-
--- the step as a byte, and the path as bytes with its first step first
-abbrev pub bit : Bool → ℕ
-bit b = cond b 1 0
-
-unfoldable pub steps : List Bool → List ℕ
-steps [] = []
-steps (b ∷ p) = steps p ++ bit b ∷ []
 
 -- the cells after the leaf p of r, and then cs
 unfoldable pub after : List ℕ → List Bool → List TreeCell → List TreeCell
@@ -41,10 +34,18 @@ advance r rs [] = state rs []
 advance r rs (true ∷ p) = advance r rs p
 advance r rs (false ∷ p) = state (r ∷ rs) (true ∷ p)
 
--- the path followed by n zeros
-unfoldable pub zeros : ℕ → List Bool → List Bool
-zeros zero p = p
-zeros (suc n) p = zeros n (false ∷ p)
+-- the same by what is left without the 1s at the end
+pub advance-on : (r : List ℕ) (rs : List (List ℕ)) (q p : List Bool) → stripped q ≡ false ∷ p → advance r rs q ≡ state (r ∷ rs) (true ∷ p)
+unfolding advance stripped
+advance-on r rs [] p e = absurd (omega (arith, ap length e))
+advance-on r rs (true ∷ q) p e = advance-on r rs q p e
+advance-on r rs (false ∷ q) p e = let same : q ≡ p = cc in ap (λ (x : List Bool). state (r ∷ rs) (true ∷ x)) same
+
+pub advance-over : (r : List ℕ) (rs : List (List ℕ)) (q : List Bool) → stripped q ≡ [] → advance r rs q ≡ state rs []
+unfolding advance stripped
+advance-over r rs [] e = refl
+advance-over r rs (true ∷ q) e = advance-over r rs q e
+advance-over r rs (false ∷ q) e = absurd (omega (arith, ap length e))
 
 -- each leaf in turn is the frontier followed by zeros
 pub data Follows : State → List TreeCell → State → Type 0 where
@@ -135,16 +136,6 @@ module _ {roots : List (List ℕ)} {D : ℕ} where
   pub follows-good : {ls : List TreeCell} {p : List Bool} → Follows (state roots []) ls (state [] p) → NoDeeper D ls → Leaves roots D ls
   unfolding todo
   follows-good f w = run-good (rw roots-todo (follows-run f)) w
-
-pub zeros-length : (n : ℕ) (p : List Bool) → length (zeros n p) ≡ n + length p
-unfolding zeros
-zeros-length zero p = omega arith
-zeros-length (suc n) p = omega (arith, zeros-length n (false ∷ p))
-
-pub steps-length : (p : List Bool) → length (steps p) ≡ length p
-unfolding steps
-steps-length [] = refl
-steps-length (b ∷ p) = simp length-append (omega (arith, steps-length p))
 
 -- the frontier after a list of leaves is one
 follows-same : {s s′ t t′ : State} {ls ls′ : List TreeCell} → s ≡ s′ → ls ≡ ls′ → Follows s ls t → Follows s′ ls′ t′ → t ≡ t′

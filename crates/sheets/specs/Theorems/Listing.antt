@@ -18,10 +18,10 @@ use Rattle.bisection.specs.Theorems.CodePaths.{rootOf, pathOf, code-path, code-
 use Rattle.codes.specs.Fronts.{frontDimension, frontCode}
 use Rattle.codes.specs.Fronts.Laws.{code-two, front-root}
 use Rattle.positions.specs.RootNumbers.{roots-good, roots-length}
+use Rattle.next.specs.Paths.{zeros, steps, steps-good}
 use Rattle.sheets.specs.Forests.{TreeCell, treeCell, NoDeeper, no-deeper-none, no-deeper-more, Leaves}
 use Rattle.sheets.specs.Sheets.{beginsWith, behindMark, isMarked, bodyLength, recordLength, unmarkedRefusal, recordRefusal, Records, none, more}
-use Rattle.sheets.specs.Theorems.Frontier.{State, state, advance, zeros, steps, Follows, end, leaf, good-follows}
-use Rattle.sheets.specs.Theorems.Line.{steps-good}
+use Rattle.sheets.specs.Theorems.Frontier.{State, state, advance, Follows, end, leaf, good-follows}
 use Rattle.sheets.specs.Theorems.Reading.{begins-is, is-begins, Passed, passed, code-in, unmarked-passes, rest-behind}
 
 -- a cell with a good root and a good path

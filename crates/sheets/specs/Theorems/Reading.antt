@@ -96,3 +96,15 @@ module _ (width : ℕ) (c samples rest : List ℕ) (e : codeRefusal c ≡ done) 
 
   pub rest-behind : drop (bodyLength width (c ++ (samples ++ rest))) (c ++ (samples ++ rest)) ≡ rest
   rest-behind = rw (body-length, ← append-assoc c samples rest) (drop-at (c ++ samples) rest (length (c ++ samples)) refl)
+
+-- bytes that begin with a code that passes, and have room for its samples, pass the tests behind the mark
+pub unmarked-by-code : (width : ℕ) (bs : List ℕ) → codeRefusal (frontCode bs) ≡ done → bodyLength width bs ≤ length bs → unmarkedRefusal width bs ≡ done
+unfolding unmarkedRefusal
+unmarked-by-code width bs e h = first-is (
+    past (subst (λ (l : List ℕ). frontRefusal l ≡ done) (sym (front-code-rest bs)) (f .refusal))
+    (holds (le-leb (frontLength bs) (length bs) (unfold bodyLength in omega arith))
+    (past (f .inner)
+    (holds (le-leb (bodyLength width bs) (length bs) h) all-hold))))
+  where
+    f : Fronted (frontCode bs) (drop (frontLength bs) bs)
+    f = code-fronted (frontCode bs) e (drop (frontLength bs) bs)

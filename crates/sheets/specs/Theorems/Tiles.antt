@@ -7,9 +7,10 @@ use Prim.Native.Nat.{ℕ, zero, suc, _+_, _-_, _^_, _≤_, _<_}
 use native.Mathlib.Omega.{arith}
 use lib.ListN.{length, length-append}
 use Rattle.positions.specs.Positions.{startOf, sizeOf}
+use Rattle.next.specs.Paths.{zeros, zeros-length, steps, steps-length}
 use Rattle.sheets.specs.Forests.{TreeCell, treeCell, childOf, Tree, leaf, node, leaves, Forest, NoDeeper, no-deeper-none, no-deeper-more, Leaves}
 use Rattle.sheets.specs.Forests as forests
-use Rattle.sheets.specs.Theorems.Frontier.{State, state, advance, zeros, zeros-length, steps, steps-length, Follows, end, good-follows}
+use Rattle.sheets.specs.Theorems.Frontier.{State, state, advance, Follows, end, good-follows}
 use Rattle.sheets.specs.Theorems.Frontier as frontier
 use Rattle.sheets.specs.Theorems.Line.{Advanced, same-root, root-over, advanced, start-zeros}
 
@@ -27,7 +28,7 @@ module _ {M : ℕ} where
   one : (r : List ℕ) (rs : List (List ℕ)) (n : ℕ) (p : List Bool) {cs : List TreeCell} → n + length p ≤ M → Advanced M r rs (zeros n p)
       → ((rs′ : List (List ℕ)) (p′ : List Bool) → advance r rs (zeros n p) ≡ state rs′ p′ → (rs′ ≡ [] → p′ ≡ []) → length p′ ≤ M → Tiles M rs′ (startOf M (steps p′)) cs)
       → Tiles M (r ∷ rs) (startOf M (steps p)) (treeCell r (steps (zeros n p)) ∷ cs)
-  one r rs n p {cs} b (same-root q a en h s) ih = part-at (steps (zeros n p)) (startOf M (steps p)) (startOf M (steps q)) (start-zeros M n p b) (long ∙ s) (ih (r ∷ rs) q a (λ e. absurd (omega (arith, ap length e))) h)
+  one r rs n p {cs} b (same-root q a h s) ih = part-at (steps (zeros n p)) (startOf M (steps p)) (startOf M (steps q)) (start-zeros M n p b) (long ∙ s) (ih (r ∷ rs) q a (λ e. absurd (omega (arith, ap length e))) h)
     where
       long : startOf M (steps (zeros n p)) + sizeOf M (steps (zeros n p)) ≡ startOf M (steps (zeros n p)) + 2 ^ (M - length (zeros n p))
       long = unfold sizeOf in ap (λ (k : ℕ). startOf M (steps (zeros n p)) + 2 ^ (M - k)) (steps-length (zeros n p))

@@ -1,0 +1,52 @@
+-- `record_refusal` meets its contract.
+use mathlib.Core.Path.{sym, ap, _∙_}
+use native.Mathlib.Omega.{arith}
+use borrow.Author.Tests.{not-true, not-false}
+use Rattle.sheets.specs.Sheets.{unmarkedRefusal}
+use Rattle.sheets.specs.StepLaws.{marked-long, marked-two, part-marked, record-unmarked, record-marked}
+use borrow.Author.Needs.{needs}
+use Rattle.sheets.proofs.record_refusal.Statement.{statement}
+use Rattle.sheets.proofs.record_refusal.Tie as tie
+
+is-marked-requires : tie.Need-is-marked-requires
+is-marked-requires c κs = search needs
+
+returns : tie.Need-returns
+returns c =
+    let args = c .before .before .before .args in
+    record-unmarked _ _ (args .bytes .now) (sym (c .before .is-marked .ensures) ∙ not-true _ (c .if1 .taken))
+
+sub-body-refusal : tie.Need-sub-body-refusal
+sub-body-refusal c = let long = marked-long _ _ (sym (c .before .is-marked .ensures) ∙ not-false _ (c .if1 .left)) in omega arith
+
+part-body-refusal-start : tie.Need-part-body-refusal-start
+part-body-refusal-start c = let long = marked-long _ _ (sym (c .before .is-marked .ensures) ∙ not-false _ (c .if1 .left)) in omega arith
+
+part-body-refusal-end : tie.Need-part-body-refusal-end
+part-body-refusal-end c = search needs
+
+body-refusal-requires : tie.Need-body-refusal-requires
+body-refusal-requires c κs =
+    let args = c .before .before .before .before .args in
+    let is-marked = c .before .before .is-marked in
+    rw (part-marked (args .edition .first) (args .edition .second) (args .bytes .now)) (marked-two _ _ (sym (is-marked .ensures) ∙ not-false _ (c .before .if1 .left)))
+
+returns-2 : tie.Need-returns-2
+returns-2 c =
+    let args = c .before .before .before .before .before .args in
+    let is-marked = c .before .before .before .is-marked in
+    let if1 = c .before .before .if1 in
+    record-marked _ _ (args .bytes .now) (sym (is-marked .ensures) ∙ not-false _ (if1 .left)) _
+    (c .body-refusal .ensures ∙ ap (unmarkedRefusal (args .edition .width)) (part-marked (args .edition .first) (args .edition .second) (args .bytes .now)))
+
+pub record-refusal-spec : {M : Type 1} → statement M
+record-refusal-spec =
+    tie.close
+    (tie.spec
+    is-marked-requires
+    returns
+    sub-body-refusal
+    part-body-refusal-start
+    part-body-refusal-end
+    body-refusal-requires
+    returns-2)
