@@ -41,7 +41,7 @@ back-is e (suc (suc (suc (suc n)))) f h q = absurd (omega arith)
 -- the first n + 1 turned left
 pub on-is : (e : Four) (n m : ℕ) → n < 4 → m ≡ negated (e .first)
     → four (fourOf (cond (eqb n 0) m (e .second)) (cond (eqb n 1) m (cond (ltb 1 n) (e .third) (e .second)))
-      (cond (eqb n 2) m (cond (ltb 2 n) (e .fourth) (e .third))) (cond (eqb n 3) m (e .fourth))) ≡ turned (suc n) (four e)
+    (cond (eqb n 2) m (cond (ltb 2 n) (e .fourth) (e .third))) (cond (eqb n 3) m (e .fourth))) ≡ turned (suc n) (four e)
 unfolding turned
 on-is e zero m h q = ap (λ (x : ℕ). x ∷ e .second ∷ e .third ∷ e .fourth ∷ []) q
 on-is e (suc zero) m h q = ap (λ (x : ℕ). e .second ∷ x ∷ e .third ∷ e .fourth ∷ []) q
@@ -52,7 +52,7 @@ on-is e (suc (suc (suc (suc n)))) m h q = absurd (omega arith)
 -- one step up: the entries as they are where the sign is the box's own, turned back where it is not
 pub unstep-is : (e t : Four) (n own : ℕ) (same : Bool) → same ≡ sameSign (minus (getD (four e) n 0)) (high own (axis (getD (four e) n 0))) → four t ≡ unturned n (four e)
     → BackIs n own (four e) (cond same 0 1)
-      (four (fourOf (cond same (e .first) (t .first)) (cond same (e .second) (t .second)) (cond same (e .third) (t .third)) (cond same (e .fourth) (t .fourth))))
+    (four (fourOf (cond same (e .first) (t .first)) (cond same (e .second) (t .second)) (cond same (e .third) (t .third)) (cond same (e .fourth) (t .fourth))))
 unfolding unstepped
 unstep-is e t n own true s q = record { step = ap (λ (b : Bool). cond b 0 1) s; entries = refl }
 unstep-is e t n own false s q = record { step = ap (λ (b : Bool). cond b 0 1) s; entries = q }

@@ -51,7 +51,11 @@ module _ {d : ℕ} {s : Next} {root : List ℕ} {p : List Bool} (st : Stands d s
 
   first-shaped : {bs : List ℕ} → First root p (frontCode bs) → Shaped d s bs
   first-shaped {bs} f = record {
-    root = root; path = p; stands = st; D = f .n + length p; rest = drop (frontLength bs) bs;
+    root = root;
+    path = p;
+    stands = st;
+    D = f .n + length p;
+    rest = drop (frontLength bs) bs;
     above = omega (arith, st .cell .depth-is);
     deep = deep;
     is = front-code-rest bs ∙ ap (λ (l : List ℕ). l ++ drop (frontLength bs) bs) (f .code-of .is ∙ code-bytes (f .n) deep)
@@ -156,6 +160,10 @@ module _ {d : ℕ} (s : Next) (D L : ℕ) (bs : List ℕ) (dim : getD bs 0 0 ≡
 -- what matches is ready for the next
 pub matched-ready : {d : ℕ} {s : Next} {root : List ℕ} {p : List Bool} {bs : List ℕ} {r : Match} → Stands d s root p → Matched root p bs r → AfterReady d s (r .depth)
 matched-ready {d} {s} {root} {p} {bs} {r} st m = record {
-  root = root; path = p; n = m .first .n; stands = st; depth-is = m .depth-is;
+  root = root;
+  path = p;
+  n = m .first .n;
+  stands = st;
+  depth-is = m .depth-is;
   deep = subst (λ (n : ℕ). r .depth ≤ greatestDepth n) (st .cell .rooted .axes) (omega (arith, m .depth-is, m .first .code-of .good-path .depth, steps-length (zeros (m .first .n) p), zeros-length (m .first .n) p));
 }

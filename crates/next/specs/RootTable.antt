@@ -56,4 +56,4 @@ module _ (dim : Dim) (n : ℕ) {f c p : ℕ} (f-is : f ≡ firstRow (axesOf dim)
   pub row-is : n < rootCount (axesOf dim) → (place : ℕ) → place < 4 → getD rootTable (4 * (f + p) + place) 0 ≡ getD (getD (roots (axesOf dim)) n []) place 0
   row-is h place l = ap (λ (row : ℕ). getD rootTable (4 * row + place) 0) (rw (f-is, p-is, c-is, place-under n (rootCount (axesOf dim)) h) refl)
       ∙ eqb-true (getD rootTable (4 * (firstRow (axesOf dim) + n) + place) 0) (getD (getD (roots (axesOf dim)) n []) place 0)
-        (each-at 4 (right (axesOf dim) n) (each-at (rootCount (axesOf dim)) (λ n. each 4 (right (axesOf dim) n)) (rows-right dim) n h) place l)
+      (each-at 4 (right (axesOf dim) n) (each-at (rootCount (axesOf dim)) (λ n. each 4 (right (axesOf dim) n)) (rows-right dim) n h) place l)

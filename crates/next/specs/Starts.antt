@@ -71,8 +71,10 @@ module _ (d n : ℕ) (dim : isDimension d ≡ true) where
 module _ (dim : Dim) (n : ℕ) {f c p : ℕ} (f-is : f ≡ firstRow (axesOf dim)) (c-is : c ≡ rootCount (axesOf dim)) (p-is : p ≡ placeIn n c) where
   pub first-is : (e : Four) → e .first ≡ getD rootTable (4 * (f + p) + 0) 0 → e .second ≡ getD rootTable (4 * (f + p) + 1) 0 → e .third ≡ getD rootTable (4 * (f + p) + 2) 0 → e .fourth ≡ getD rootTable (4 * (f + p) + 3) 0
       → FirstIs (axesOf dim) n (record { entries = e; boxes = 0; depth = 0; path = 0 })
-  first-is e a b x y = record { first = λ h. root-stands (axesOf dim) n (axes-dimension dim) h e (let l = subst (λ (m : ℕ). n < m) (roots-count (axesOf dim)) h in
-      rw (a ∙ row-is dim n f-is c-is p-is l 0 (omega arith), b ∙ row-is dim n f-is c-is p-is l 1 (omega arith), x ∙ row-is dim n f-is c-is p-is l 2 (omega arith), y ∙ row-is dim n f-is c-is p-is l 3 (omega arith)) refl) }
+  first-is e a b x y = record {
+    first = λ h. root-stands (axesOf dim) n (axes-dimension dim) h e (let l = subst (λ (m : ℕ). n < m) (roots-count (axesOf dim)) h in
+        rw (a ∙ row-is dim n f-is c-is p-is l 0 (omega arith), b ∙ row-is dim n f-is c-is p-is l 1 (omega arith), x ∙ row-is dim n f-is c-is p-is l 2 (omega arith), y ∙ row-is dim n f-is c-is p-is l 3 (omega arith)) refl);
+  }
 
 -- the running position on the line costs one shift
 pub stands-at : {d : ℕ} {s : Next} {root : List ℕ} {p : List Bool} → Stands d s root p → startOf (greatestDepth d) (steps p) ≡ s .path * 2 ^ (greatestDepth d - s .depth)

@@ -54,7 +54,10 @@ pub fn matches(next: Next, dim: Dim, bytes: &[u8]) -> Match
     requires { ⌜ 2 ≤ length (now bytes) ⌝ }
     ensures { λ r. ⌜ MatchIs (axesOf dim) next (now (bytes .entry)) r ⌝ }
 {
-    let none = Match { length: 0, depth: 0 };
+    let none = Match {
+        length: 0,
+        depth: 0,
+    };
     let axes = dim.axes();
     let depth = common::size(bytes[1]);
     if common::size(bytes[0]) != axes {

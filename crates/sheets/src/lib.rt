@@ -160,7 +160,10 @@ fn fits(edition: Edition, state: State, bytes: &[u8]) -> Match
     requires { ⌜ Known state ⌝ }
     ensures { λ r. ⌜ FitsIs (markOf edition) (edition .width) state (now (bytes .entry)) r ⌝ }
 {
-    let none = Match { length: 0, depth: 0 };
+    let none = Match {
+        length: 0,
+        depth: 0,
+    };
     if state.dimension == 0 {
         return none;
     }
