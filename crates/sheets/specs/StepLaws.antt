@@ -8,7 +8,7 @@ use native.Mathlib.Omega.{arith}
 use native.Mathlib.Nat.{mul-le-mul}
 use native.Mathlib.Numerals.{add-one}
 use lib.Dec.{eqb, leb}
-use lib.ListN.{length, getD, take, drop, length-take, length-drop}
+use lib.ListN.{length, getD, take, drop, length-drop}
 use lib.Seq.{take-all}
 use borrow.Author.Tests.{eq-eqb, ne-eqb, le-leb, lt-leb, leb-true}
 use Rattle.dimension.specs.Sizes.{isDimension}
@@ -16,7 +16,7 @@ use Rattle.bisection.specs.Refusals.{done}
 use Rattle.bisection.specs.Theorems.Checked.{both}
 use Rattle.bisection.specs.Theorems.Ladders.{first-is, all-hold, holds, fails, past, stops, own-last, held-at}
 use Rattle.codes.specs.declared.Head.{Head}
-use Rattle.codes.specs.Fronts.{frontRefusal, frontDimension, frontLength, frontCode, innerRefusal, HeadIs, Headed}
+use Rattle.codes.specs.Fronts.{frontRefusal, frontLength, frontCode, innerRefusal, HeadIs, Headed}
 use Rattle.codes.specs.Fronts.Laws.{front-is-front, front-headed, front-known}
 use Rattle.next.specs.declared.Next.{Next}
 use Rattle.next.specs.declared.Match.{Match}
@@ -24,7 +24,6 @@ use Rattle.next.specs.Nexts.{FirstIs, MatchIs}
 use Rattle.sheets.specs.declared.Edition.{Edition}
 use Rattle.sheets.specs.declared.SheetAnswer.{SheetAnswer}
 use Rattle.sheets.specs.declared.State.{State}
-use Rattle.sheets.specs.declared.RecordParts.{RecordParts}
 use Rattle.sheets.specs.Sheets.{sampleWidth, refusedRecord, beginsWith, behindMark, isMarked, bodyLength, recordLength, unmarkedRefusal, recordRefusal, Checks, SheetIs}
 use Rattle.sheets.specs.Steps.{markOf, IsFirst, PartsAre, stateOf, OpenIs, opens, shut}
 use Rattle.sheets.specs.Theorems.Reading.{passed}

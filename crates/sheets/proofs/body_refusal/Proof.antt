@@ -1,14 +1,10 @@
 -- `body_refusal` meets its contract: each way out is one of the tests behind the mark, in their order.
 use mathlib.Core.Path.{sym, _∙_}
-use native.Mathlib.Omega.{arith}
 use lib.ListN.{length-take}
 use Rattle.sheets.specs.StepLaws.{body-head, body-cut, body-headed, body-inner, body-samples, body-done, least}
 use borrow.Author.Needs.{needs}
 use Rattle.sheets.proofs.body_refusal.Statement.{statement}
 use Rattle.sheets.proofs.body_refusal.Tie as tie
-
-code-head-requires : tie.Need-code-head-requires
-code-head-requires c κs = search needs
 
 returns : tie.Need-returns
 returns c =
@@ -21,9 +17,6 @@ returns-2 c =
     let args = c .before .before .before .before .before .args in
     let code-head = c .before .before .before .code-head in
     body-cut _ (args .bytes .now) _ (code-head .ensures) (c .before .if1 .left) (c .if2 .taken)
-
-slice-aggregate-code-body : tie.Need-slice-aggregate-code-body
-slice-aggregate-code-body c = sym (length-take _ _ ∙ least _ _ (c .before .if2 .left))
 
 code-body-requires : tie.Need-code-body-requires
 code-body-requires c κs =
@@ -39,12 +32,6 @@ returns-3 c =
     let if1 = c .before .before .before .before .if1 in
     let if2 = c .before .before .before .if2 in
     body-inner _ (args .bytes .now) _ (code-head .ensures) (if1 .left) (if2 .left) _ (c .before .code-body .ensures) (c .if3 .taken)
-
-samples-length-requires : tie.Need-samples-length-requires
-samples-length-requires c κs = search needs
-
-add-if4 : tie.Need-add-if4
-add-if4 c = search needs
 
 returns-4 : tie.Need-returns-4
 returns-4 c =
@@ -70,13 +57,13 @@ pub body-refusal-spec : {M : Type 1} → statement M
 body-refusal-spec =
     tie.close
     (tie.spec
-    code-head-requires
+    (λ c κs. search needs)
     returns
     returns-2
-    slice-aggregate-code-body
+    (λ c. sym (length-take _ _ ∙ least _ _ (c .before .if2 .left)))
     code-body-requires
     returns-3
-    samples-length-requires
-    add-if4
+    (λ c κs. search needs)
+    (λ c. search needs)
     returns-4
     returns-5)

@@ -10,23 +10,11 @@ use borrow.Author.Needs.{needs}
 use Rattle.sheets.proofs.fits.Statement.{statement}
 use Rattle.sheets.proofs.fits.Tie as tie
 
-returns : tie.Need-returns
-returns c = no-dimension (c .if1 .taken) refl
-
-is-marked-requires : tie.Need-is-marked-requires
-is-marked-requires c κs = search needs
-
-returns-2 : tie.Need-returns-2
-returns-2 c = unmarked (sym (c .before .is-marked .ensures) ∙ not-true _ (c .if2 .taken)) refl
-
 checked-requires : tie.Need-checked-requires
 checked-requires c κs =
     let pre = c .before .before .before .before .before .pre in
     let if1 = c .before .before .if1 in
     pre .known (if1 .left)
-
-roots-requires : tie.Need-roots-requires
-roots-requires c κs = search needs
 
 returns-3 : tie.Need-returns-3
 returns-3 c =
@@ -46,9 +34,6 @@ part-rest-start c =
     let if2 = c .before .before .before .before .if2 in
     let long = marked-long _ _ (sym (is-marked .ensures) ∙ not-false _ (if2 .left)) in omega arith
 
-part-rest-end : tie.Need-part-rest-end
-part-rest-end c = search needs
-
 matches-requires : tie.Need-matches-requires
 matches-requires c κs =
     let args = c .before .before .before .before .before .before .before .before .before .before .args in
@@ -62,9 +47,6 @@ returns-4 c =
     let checked = c .before .before .before .before .before .before .before .checked in
     let matches = c .before .before .matches in
     other (match-behind _ _ (args .bytes .now) (checked .ensures) (matches .ensures)) (c .if4 .taken) refl
-
-samples-length-requires : tie.Need-samples-length-requires
-samples-length-requires c κs = search needs
 
 add-if5 : tie.Need-add-if5
 add-if5 c =
@@ -103,18 +85,18 @@ pub fits-spec : {M : Type 1} → statement M
 fits-spec =
     tie.close
     (tie.spec
-    returns
-    is-marked-requires
-    returns-2
+    (λ c. no-dimension (c .if1 .taken) refl)
+    (λ c κs. search needs)
+    (λ c. unmarked (sym (c .before .is-marked .ensures) ∙ not-true _ (c .if2 .taken)) refl)
     checked-requires
-    roots-requires
+    (λ c κs. search needs)
     returns-3
     sub-rest
     part-rest-start
-    part-rest-end
+    (λ c. search needs)
     matches-requires
     returns-4
-    samples-length-requires
+    (λ c κs. search needs)
     add-if5
     returns-5
     returns-6)

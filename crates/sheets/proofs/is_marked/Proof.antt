@@ -5,22 +5,10 @@ use borrow.Author.Needs.{needs}
 use Rattle.sheets.proofs.is_marked.Statement.{statement}
 use Rattle.sheets.proofs.is_marked.Tie as tie
 
-add-if1 : tie.Need-add-if1
-add-if1 c = search needs
-
-returns : tie.Need-returns
-returns c = marked-short _ _ (c .before .args .bytes .now) (omega arith)
-
-shared-slice-read-if2 : tie.Need-shared-slice-read-if2
-shared-slice-read-if2 c = search needs
-
 returns-2 : tie.Need-returns-2
 returns-2 c =
     let args = c .before .before .before .before .args in
     marked-first _ (args .edition .second) (args .bytes .now) (omega arith) (c .if2 .taken)
-
-shared-slice-read-result : tie.Need-shared-slice-read-result
-shared-slice-read-result c = search needs
 
 returns-3 : tie.Need-returns-3
 returns-3 c =
@@ -31,4 +19,10 @@ returns-3 c =
 pub is-marked-spec : {M : Type 1} → statement M
 is-marked-spec =
     tie.close
-    (tie.spec add-if1 returns shared-slice-read-if2 returns-2 shared-slice-read-result returns-3)
+    (tie.spec
+    (λ c. search needs)
+    (λ c. marked-short _ _ (c .before .args .bytes .now) (omega arith))
+    (λ c. search needs)
+    returns-2
+    (λ c. search needs)
+    returns-3)

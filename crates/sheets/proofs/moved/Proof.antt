@@ -6,24 +6,6 @@ use borrow.Author.Needs.{needs}
 use Rattle.sheets.proofs.moved.Statement.{statement}
 use Rattle.sheets.proofs.moved.Tie as tie
 
-checked-requires : tie.Need-checked-requires
-checked-requires c κs = search needs
-
-samples-length-requires : tie.Need-samples-length-requires
-samples-length-requires c κs = search needs
-
-add-offset : tie.Need-add-offset
-add-offset c = search needs
-
-add-offset-2 : tie.Need-add-offset-2
-add-offset-2 c = search needs
-
-add-offset-3 : tie.Need-add-offset-3
-add-offset-3 c = search needs
-
-add-records : tie.Need-add-records
-add-records c = search needs
-
 after-requires : tie.Need-after-requires
 after-requires c κs =
     let checked = c .before .before .before .before .checked in
@@ -39,12 +21,6 @@ returns c =
     on (rw (checked .ensures) at (after .ensures)) (c .before .if1 .taken)
     (ap (λ (n : ℕ). stateOf (args .state .offset + (2 + (args .found .length + n))) (args .state .records + 1) (args .state .dimension) (args .state .root) (after .result .next)) (samples-length .ensures .0))
 
-add-root : tie.Need-add-root
-add-root c = search needs
-
-first-requires : tie.Need-first-requires
-first-requires c κs = search needs
-
 returns-2 : tie.Need-returns-2
 returns-2 c =
     let checked = c .before .before .before .before .before .before .before .before .checked in
@@ -59,14 +35,14 @@ pub moved-spec : {M : Type 1} → statement M
 moved-spec =
     tie.close
     (tie.spec
-    checked-requires
-    samples-length-requires
-    add-offset
-    add-offset-2
-    add-offset-3
-    add-records
+    (λ c κs. search needs)
+    (λ c κs. search needs)
+    (λ c. search needs)
+    (λ c. search needs)
+    (λ c. search needs)
+    (λ c. search needs)
     after-requires
     returns
-    add-root
-    first-requires
+    (λ c. search needs)
+    (λ c κs. search needs)
     returns-2)

@@ -8,26 +8,11 @@ use borrow.Author.Needs.{needs}
 use Rattle.sheets.proofs.opened.Statement.{statement}
 use Rattle.sheets.proofs.opened.Tie as tie
 
-returns : tie.Need-returns
-returns c = was-open (c .if1 .taken) refl
-
-is-marked-requires : tie.Need-is-marked-requires
-is-marked-requires c κs = search needs
-
 returns-2 : tie.Need-returns-2
 returns-2 c =
     let args = c .before .before .before .before .before .args in
     let if1 = c .before .before .if1 in
     open-unmarked _ (args .state) _ (if1 .left) (sym (c .before .is-marked .ensures) ∙ not-true _ (c .if2 .taken))
-
-sub-code-head : tie.Need-sub-code-head
-sub-code-head c = let long = marked-long _ _ (sym (c .before .is-marked .ensures) ∙ not-false _ (c .if2 .left)) in omega arith
-
-part-code-head-start : tie.Need-part-code-head-start
-part-code-head-start c = let long = marked-long _ _ (sym (c .before .is-marked .ensures) ∙ not-false _ (c .if2 .left)) in omega arith
-
-part-code-head-end : tie.Need-part-code-head-end
-part-code-head-end c = search needs
 
 code-head-requires : tie.Need-code-head-requires
 code-head-requires c κs =
@@ -55,9 +40,6 @@ checked-requires c κs =
     let marked = sym (is-marked .ensures) ∙ not-false _ (if2 .left) in
     open-known _ (args .state) _ (if1 .left) marked _ (head-behind _ _ (args .bytes .now) (code-head .ensures)) (c .if3 .left)
 
-first-requires : tie.Need-first-requires
-first-requires c κs = search needs
-
 returns-4 : tie.Need-returns-4
 returns-4 c =
     let is-marked = c .before .before .before .before .before .before .before .is-marked in
@@ -73,14 +55,14 @@ pub opened-spec : {M : Type 1} → statement M
 opened-spec =
     tie.close
     (tie.spec
-    returns
-    is-marked-requires
+    (λ c. was-open (c .if1 .taken) refl)
+    (λ c κs. search needs)
     returns-2
-    sub-code-head
-    part-code-head-start
-    part-code-head-end
+    (λ c. let long = marked-long _ _ (sym (c .before .is-marked .ensures) ∙ not-false _ (c .if2 .left)) in omega arith)
+    (λ c. let long = marked-long _ _ (sym (c .before .is-marked .ensures) ∙ not-false _ (c .if2 .left)) in omega arith)
+    (λ c. search needs)
     code-head-requires
     returns-3
     checked-requires
-    first-requires
+    (λ c κs. search needs)
     returns-4)

@@ -7,23 +7,11 @@ use borrow.Author.Needs.{needs}
 use Rattle.sheets.proofs.record_parts.Statement.{statement}
 use Rattle.sheets.proofs.record_parts.Tie as tie
 
-sub-code-head : tie.Need-sub-code-head
-sub-code-head c = let long = marked-long _ _ (parts-marked _ _ _ (c .before .pre)) in omega arith
-
-part-code-head-start : tie.Need-part-code-head-start
-part-code-head-start c = let long = marked-long _ _ (parts-marked _ _ _ (c .before .pre)) in omega arith
-
-part-code-head-end : tie.Need-part-code-head-end
-part-code-head-end c = search needs
-
 code-head-requires : tie.Need-code-head-requires
 code-head-requires c κs =
     let args = c .before .before .args in
     let pre = c .before .before .pre in
     rw (part-marked (args .edition .first) (args .edition .second) (args .bytes .now)) (marked-two _ _ (parts-marked _ _ _ (pre)))
-
-samples-length-requires : tie.Need-samples-length-requires
-samples-length-requires c κs = search needs
 
 add-t10 : tie.Need-add-t10
 add-t10 c =
@@ -50,11 +38,11 @@ pub record-parts-spec : {M : Type 1} → statement M
 record-parts-spec =
     tie.close
     (tie.spec
-    sub-code-head
-    part-code-head-start
-    part-code-head-end
+    (λ c. let long = marked-long _ _ (parts-marked _ _ _ (c .before .pre)) in omega arith)
+    (λ c. let long = marked-long _ _ (parts-marked _ _ _ (c .before .pre)) in omega arith)
+    (λ c. search needs)
     code-head-requires
-    samples-length-requires
+    (λ c κs. search needs)
     add-t10
     add-t11
     returns)

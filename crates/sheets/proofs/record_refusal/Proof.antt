@@ -8,22 +8,10 @@ use borrow.Author.Needs.{needs}
 use Rattle.sheets.proofs.record_refusal.Statement.{statement}
 use Rattle.sheets.proofs.record_refusal.Tie as tie
 
-is-marked-requires : tie.Need-is-marked-requires
-is-marked-requires c κs = search needs
-
 returns : tie.Need-returns
 returns c =
     let args = c .before .before .before .args in
     record-unmarked _ _ (args .bytes .now) (sym (c .before .is-marked .ensures) ∙ not-true _ (c .if1 .taken))
-
-sub-body-refusal : tie.Need-sub-body-refusal
-sub-body-refusal c = let long = marked-long _ _ (sym (c .before .is-marked .ensures) ∙ not-false _ (c .if1 .left)) in omega arith
-
-part-body-refusal-start : tie.Need-part-body-refusal-start
-part-body-refusal-start c = let long = marked-long _ _ (sym (c .before .is-marked .ensures) ∙ not-false _ (c .if1 .left)) in omega arith
-
-part-body-refusal-end : tie.Need-part-body-refusal-end
-part-body-refusal-end c = search needs
 
 body-refusal-requires : tie.Need-body-refusal-requires
 body-refusal-requires c κs =
@@ -43,10 +31,10 @@ pub record-refusal-spec : {M : Type 1} → statement M
 record-refusal-spec =
     tie.close
     (tie.spec
-    is-marked-requires
+    (λ c κs. search needs)
     returns
-    sub-body-refusal
-    part-body-refusal-start
-    part-body-refusal-end
+    (λ c. let long = marked-long _ _ (sym (c .before .is-marked .ensures) ∙ not-false _ (c .if1 .left)) in omega arith)
+    (λ c. let long = marked-long _ _ (sym (c .before .is-marked .ensures) ∙ not-false _ (c .if1 .left)) in omega arith)
+    (λ c. search needs)
     body-refusal-requires
     returns-2)

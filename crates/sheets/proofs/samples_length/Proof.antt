@@ -1,21 +1,9 @@
 -- `samples_length` meets its contract: a product of two bytes.
-use mathlib.Core.Path.{_≡_, _∙_, ap}
-use Prim.Native.Nat.{ℕ, suc, _+_, _*_}
 use native.Mathlib.Omega.{arith}
-use native.Mathlib.Numerals.{add-one}
 use Rattle.sheets.specs.StepLaws.{samples-small, samples-as}
 use borrow.Author.Needs.{needs}
 use Rattle.sheets.proofs.samples_length.Statement.{statement}
 use Rattle.sheets.proofs.samples_length.Tie as tie
-
-size-requires : tie.Need-size-requires
-size-requires c κs = search needs
-
-size-requires-2 : tie.Need-size-requires-2
-size-requires-2 c κs = search needs
-
-add-result : tie.Need-add-result
-add-result c = search needs
 
 mul-result : tie.Need-mul-result
 mul-result c =
@@ -31,4 +19,10 @@ returns c =
 
 pub samples-length-spec : {M : Type 1} → statement M
 samples-length-spec =
-    tie.close (tie.spec size-requires size-requires-2 add-result mul-result returns)
+    tie.close
+    (tie.spec
+    (λ c κs. search needs)
+    (λ c κs. search needs)
+    (λ c. search needs)
+    mul-result
+    returns)

@@ -1,21 +1,18 @@
 -- The answer of the sheet check is determined, and so are the leaves of a good sheet.
 use mathlib.Core.Path.{_≡_, refl, sym, ap, _∙_, subst}
-use mathlib.Core.Bool.{Bool, true, false, _&&_}
-use mathlib.Core.List.{List, [], _∷_, _++_, append-assoc, append-nil}
-use mathlib.Core.Logic.{_≢_}
-use Prim.Native.Nat.{ℕ, zero, suc, _+_, _-_, _*_, _≤_, _<_}
+use mathlib.Core.List.{List, [], _++_, append-nil}
+use Prim.Native.Nat.{ℕ, suc, _+_, _-_, _*_, _≤_, _<_}
 use native.Mathlib.Omega.{arith}
 use native.Mathlib.Decide.{decLt}
 use native.Mathlib.Nat.{zero-add}
-use lib.ListN.{length, take, drop, length-append, length-drop, length-take, take-append-drop, drop-of-length-le}
+use lib.ListN.{length, take, drop, length-drop, take-append-drop}
 use lib.Seq.{drop-drop}
 use Rattle.bisection.specs.Refusals.{done}
-use Rattle.bisection.specs.Codes.{codeOf}
 use Rattle.codes.specs.Fronts.Laws.{front-two}
 use Rattle.sheets.specs.declared.SheetAnswer.{SheetAnswer}
 use Rattle.sheets.specs.Forests.{TreeCell}
 use Rattle.sheets.specs.Sheets.{Records, none, more, GoodSheet, Begins, behindMark, bodyLength, recordLength, recordRefusal, Read, start, next, told, Checks, good, record-refused, not-next, ended-early, SheetIs, sheetMark, sampleWidth}
-use Rattle.sheets.specs.Theorems.Listing.{GoodCell, recordOf, IsRecord, record-read, record-passes, record-rest, two-behind, Listed, listed-empty, Cut, cut, CellsIn, cells-none, cells-more, records-listed, leaves-cells}
+use Rattle.sheets.specs.Theorems.Listing.{recordOf, IsRecord, record-read, record-passes, record-rest, Listed, listed-empty, Cut, cut, CellsIn, cells-none, cells-more, records-listed, leaves-cells}
 
 module _ (mark : List ℕ) (width : ℕ) where
   -- a record that passes has some bytes, and they are there

@@ -1,14 +1,14 @@
 -- The frontier rule, for any list of roots: after the leaf with root r and path p drop the 1s at the path's end and
 -- turn the last 0 into 1, or, where there is no 0, go to the next root; the next leaf is the frontier followed by
 -- zeros only. A path is kept here with its last step first, a step 1 as true, so that the rule reads it from its end.
-use mathlib.Core.Path.{_≡_, refl, sym, ap, _∙_, subst}
+use mathlib.Core.Path.{_≡_, refl, sym, ap, _∙_}
 use mathlib.Core.Bool.{Bool, true, false}
 use mathlib.Core.List.{List, [], _∷_, _++_}
-use Prim.Native.Nat.{ℕ, zero, suc, _+_, _≤_}
+use Prim.Native.Nat.{ℕ, zero, suc, _+_}
 use native.Mathlib.Omega.{arith}
-use lib.ListN.{length, length-append}
+use lib.ListN.{length}
 use Rattle.next.specs.Paths.{steps, steps-length, zeros, zeros-length, stripped}
-use Rattle.sheets.specs.Forests.{TreeCell, treeCell, childOf, NoDeeper, Leaves, rootCells}
+use Rattle.sheets.specs.Forests.{TreeCell, treeCell, NoDeeper, Leaves, rootCells}
 use Rattle.sheets.specs.Theorems.Todo.{Next, here, down, Run, stop, step, begins-run, run-begins, good-run, run-good}
 
 -- the cells after the leaf p of r, and then cs

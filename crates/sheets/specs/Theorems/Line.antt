@@ -1,15 +1,15 @@
 -- The frontier on the line: a leaf starts where the frontier does, and the next frontier starts where the leaf ends.
-use mathlib.Core.Path.{_≡_, refl, sym, ap, _∙_, subst}
+use mathlib.Core.Path.{_≡_, refl, sym, ap, _∙_}
 use mathlib.Core.Bool.{Bool, true, false}
 use mathlib.Core.List.{List, [], _∷_}
-use Prim.Native.Nat.{ℕ, zero, suc, _+_, _-_, _*_, _^_, _≤_, _<_}
+use Prim.Native.Nat.{ℕ, suc, _+_, _-_, _*_, _^_, _≤_}
 use native.Mathlib.Omega.{arith}
 use native.Mathlib.Nat.{mul-assoc, add-mul, mul-left-comm}
 use lib.ListN.{length}
 use lib.Pow.{pow-add}
 use Rattle.positions.specs.Positions.{startOf}
 use Rattle.next.specs.Paths.{steps, zeros, zeros-length, number, number-zeros, half-part, start-number}
-use Rattle.sheets.specs.Theorems.Frontier.{State, state, advance}
+use Rattle.sheets.specs.Theorems.Frontier.{state, advance}
 
 module _ (M : ℕ) where
   -- the frontier followed by zeros starts where the frontier does

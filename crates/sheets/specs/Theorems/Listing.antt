@@ -2,12 +2,12 @@
 use mathlib.Core.Path.{_≡_, refl, sym, ap, _∙_, subst}
 use mathlib.Core.Bool.{Bool, true, false, _&&_}
 use mathlib.Core.List.{List, [], _∷_, _++_, append-assoc}
-use Prim.Native.Nat.{ℕ, zero, suc, _+_, _-_, _*_, _≤_, _<_}
+use Prim.Native.Nat.{ℕ, suc, _+_, _-_, _*_, _≤_, _<_}
 use native.Mathlib.Omega.{arith}
 use lib.Dec.{leb}
-use lib.ListN.{length, getD, take, drop, replicate, length-append, length-drop, length-replicate}
+use lib.ListN.{length, getD, drop, replicate, length-append, length-drop, length-replicate}
 use lib.Seq.{drop-at, drop-drop}
-use borrow.Author.Tests.{leb-true, le-leb}
+use borrow.Author.Tests.{le-leb}
 use Rattle.dimension.specs.Sizes.{isDimension, greatestDepth}
 use Rattle.bisection.specs.Roots.{GoodRoot, GoodPath, roots}
 use Rattle.bisection.specs.Codes.{codeOf, IsCodeOf}
@@ -21,7 +21,7 @@ use Rattle.positions.specs.RootNumbers.{roots-good, roots-length}
 use Rattle.next.specs.Paths.{zeros, steps, steps-good}
 use Rattle.sheets.specs.Forests.{TreeCell, treeCell, NoDeeper, no-deeper-none, no-deeper-more, Leaves}
 use Rattle.sheets.specs.Sheets.{beginsWith, behindMark, isMarked, bodyLength, recordLength, unmarkedRefusal, recordRefusal, Records, none, more}
-use Rattle.sheets.specs.Theorems.Frontier.{State, state, advance, Follows, end, leaf, good-follows}
+use Rattle.sheets.specs.Theorems.Frontier.{State, advance, Follows, end, leaf, good-follows}
 use Rattle.sheets.specs.Theorems.Reading.{begins-is, is-begins, Passed, passed, code-in, unmarked-passes, rest-behind}
 
 -- a cell with a good root and a good path

@@ -1,14 +1,14 @@
 -- The leaves of a good sheet fill the line: on each root in turn one part begins where the last one ends, from the
 -- start of the root's stretch to its end. So they stand in tree order, with no gap and no overlap.
 use mathlib.Core.Path.{_≡_, refl, sym, ap, _∙_, subst}
-use mathlib.Core.Bool.{Bool, true, false}
+use mathlib.Core.Bool.{Bool}
 use mathlib.Core.List.{List, [], _∷_, _++_, append-assoc}
-use Prim.Native.Nat.{ℕ, zero, suc, _+_, _-_, _^_, _≤_, _<_}
+use Prim.Native.Nat.{ℕ, _+_, _-_, _^_, _≤_}
 use native.Mathlib.Omega.{arith}
 use lib.ListN.{length, length-append}
 use Rattle.positions.specs.Positions.{startOf, sizeOf}
 use Rattle.next.specs.Paths.{zeros, zeros-length, steps, steps-length}
-use Rattle.sheets.specs.Forests.{TreeCell, treeCell, childOf, Tree, leaf, node, leaves, Forest, NoDeeper, no-deeper-none, no-deeper-more, Leaves}
+use Rattle.sheets.specs.Forests.{TreeCell, treeCell, childOf, Tree, leaf, node, leaves, Forest, NoDeeper, no-deeper-more, Leaves}
 use Rattle.sheets.specs.Forests as forests
 use Rattle.sheets.specs.Theorems.Frontier.{State, state, advance, Follows, end, good-follows}
 use Rattle.sheets.specs.Theorems.Frontier as frontier

@@ -1,8 +1,8 @@
 -- Trees by the list of cells still to do: a list of leaves begins those of a forest just when each leaf in turn is
 -- the first cell still to do, or lies first inside it; it is those of a forest just when nothing is then left.
-use mathlib.Core.Path.{_≡_, refl, sym, ap, _∙_, subst}
+use mathlib.Core.Path.{_≡_, refl, ap}
 use mathlib.Core.List.{List, [], _∷_, _++_, append-assoc, append-nil}
-use Prim.Native.Nat.{ℕ, zero, suc, _+_, _≤_}
+use Prim.Native.Nat.{ℕ, _+_, _≤_}
 use native.Mathlib.Omega.{arith}
 use lib.ListN.{length, length-append}
 use Rattle.sheets.specs.Forests.{TreeCell, treeCell, childOf, Tree, leaf, node, leaves, Forest, none, more, NoDeeper, no-deeper-none, no-deeper-more, Leaves, rootCells}
