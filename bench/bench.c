@@ -15,7 +15,7 @@
 
 #define CODES 8192
 #define ROUNDS 600
-#define SHEET_BYTES 4000000 /* room for 100,000 records of at most 38 bytes */
+#define SHEET_BYTES 38000000 /* room for 1,000,000 records of at most 38 bytes */
 
 /* One program's entries. */
 typedef struct {
@@ -32,6 +32,9 @@ typedef struct {
 static const entries plain = {plain_code_check, plain_path_to_code, plain_code_to_path,
                               plain_vertices,   plain_child,        plain_parent,
                               plain_cross,      plain_sheet_check};
+
+/* Plain C that keeps the next cell as a code: the sheet check alone. */
+static const entries by_next = {.sheet_check = plain_sheet_by_next};
 
 /* bench/run names the entries that the library has not. */
 #ifdef NO_CROSS
@@ -283,13 +286,13 @@ typedef struct {
     double our_time, plain_time, ratio;
 } medians;
 
-static medians measure(round_of *round, size_t rounds)
+static medians measure(round_of *round, const entries *beside, size_t rounds)
 {
     static double our_times[ROUNDS], plain_times[ROUNDS], ratios[ROUNDS];
     uint64_t sum = round(&plain);
     for (size_t n = 0; n < rounds; n++) {
         our_times[n] = time_of(round, &ours, sum);
-        plain_times[n] = time_of(round, &plain, sum);
+        plain_times[n] = time_of(round, beside, sum);
         ratios[n] = our_times[n] / plain_times[n];
     }
     medians m = {median(our_times, rounds), median(plain_times, rounds), median(ratios, rounds)};
@@ -299,18 +302,29 @@ static medians measure(round_of *round, size_t rounds)
 /* One row of the first table, for each of `calls` calls or records. */
 static void row(const char *name, round_of *round, size_t calls)
 {
-    medians m = measure(round, ROUNDS);
+    medians m = measure(round, &plain, ROUNDS);
     printf("| %s | %.1f | %.1f | %.2f |\n", name, m.our_time / (double)calls, m.plain_time / (double)calls, m.ratio);
 }
 
-/* One row of the second: a good sheet, in millions of bytes a second, and our speed as a part of plain C's. */
+/* One row of the second: a good sheet, in millions of bytes a second, and our speed as a part of plain C's. And one of the third:
+ * the same sheet, for each record, beside plain C and beside plain C by the next cell. */
 static void speed_row(uint8_t d, size_t leaves)
 {
     sized_sheet(d, leaves);
-    medians m = measure(sheet_check_round, ROUNDS / 10);
+    medians m = measure(sheet_check_round, &plain, ROUNDS / 10);
     double bytes = (double)sheet_length * 1e3;
     printf("| %u | %zu | %zu | %.0f | %.0f | %.2f |\n", d, sheet_records, sheet_length, bytes / m.our_time,
            bytes / m.plain_time, 1 / m.ratio);
+}
+
+static void record_row(uint8_t d, size_t leaves)
+{
+    sized_sheet(d, leaves);
+    size_t rounds = leaves > 100000 ? ROUNDS / 30 : ROUNDS / 10;
+    medians m = measure(sheet_check_round, &plain, rounds), n = measure(sheet_check_round, &by_next, rounds);
+    double records = (double)sheet_records;
+    printf("| %u | %zu | %.1f | %.1f | %.2f | %.1f | %.2f |\n", d, sheet_records, n.our_time / records,
+           m.plain_time / records, m.ratio, n.plain_time / records, n.ratio);
 }
 
 /* A good sheet of at most so many bytes, to a file. */
@@ -356,5 +370,10 @@ int main(int count, char **words)
     for (uint8_t d = 2; d <= 4; d++)
         for (size_t leaves = 10000; leaves <= 100000; leaves *= 10)
             speed_row(d, leaves);
+    printf("\n| dimension | leaves | ours, ns a record | plain C, ns | ratio | C by the next cell, ns | ratio |\n"
+           "|---|---|---|---|---|---|---|\n");
+    for (uint8_t d = 2; d <= 4; d++)
+        for (size_t leaves = 10000; leaves <= 1000000; leaves *= 10)
+            record_row(d, leaves);
     return 0;
 }

@@ -481,3 +481,87 @@ rmk_sheet_answer plain_sheet_check(const uint8_t *sheet, size_t sheet_length)
         answer.records = records;
     return answer;
 }
+
+/* The next cell, kept as a code: its entries, the orthants of the first cell of greatest depth inside it, its depth, and its path
+ * as a number, whose last 1s are the steps to take back. */
+typedef struct {
+    unsigned d, depth; /* d is 0 before the first record */
+    int complete;
+    uint64_t path;
+    uint8_t root[MOST_AXES], entries[MOST_AXES], orthants[RMK_HALVINGS];
+} next_cell;
+
+static void begin_root(next_cell *next)
+{
+    next->depth = 0;
+    next->path = 0;
+    memcpy(next->entries, next->root, MOST_AXES);
+    memset(next->orthants, 0, RMK_HALVINGS);
+}
+
+/* Are the bytes a record whose code is that of the next cell, or of the first one inside it? */
+static int is_next(const next_cell *next, const uint8_t *record, size_t left, header *h)
+{
+    if (left < MARK + HEAD || record[0] != 0x43 || record[1] != 0x4C || next->complete)
+        return 0;
+    const uint8_t *entries = record + MARK + HEAD;
+    *h = read_head(record + MARK);
+    if (h->refusal || h->d != next->d || h->depth < next->depth || left < record_length(*h))
+        return 0;
+    for (unsigned i = 0; i < h->d; i++)
+        if (entries[i] != next->entries[i])
+            return 0;
+    for (unsigned i = 0; i < h->boxes; i++)
+        if (entries[h->d + i] != next->orthants[i])
+            return 0;
+    return 1;
+}
+
+/* Moves past a leaf of so great a depth: the 1s at its path's end are taken back, and the last 0 becomes 1. */
+static void pass_next(next_cell *next, header h)
+{
+    uint64_t path = next->path << (h.depth - next->depth);
+    unsigned depth = h.depth, k = h.k;
+    for (; path & 1; path >>= 1, depth--) {
+        k = k == h.d ? 1 : k + 1;
+        turn_right(next->entries, k);
+    }
+    if (depth == 0) {
+        next->complete = !next_root(next->root, h.d);
+        begin_root(next);
+        return;
+    }
+    turn_left(next->entries, k == h.d ? 1 : k + 1);
+    unsigned boxes = (depth - 1) / h.d;
+    memset(next->orthants + boxes, orthant_of(next->entries, h.d), RMK_HALVINGS - boxes);
+    next->depth = depth;
+    next->path = path + 1;
+}
+
+rmk_sheet_answer plain_sheet_by_next(const uint8_t *sheet, size_t sheet_length)
+{
+    rmk_sheet_answer answer = {RMK_DONE, 0, 0};
+    next_cell next = {0, 0, 0, 0, {1, 2, 3, 4}, {0}, {0}};
+    size_t at = 0, records = 0;
+    if (sheet_length >= MARK + HEAD && sheet[MARK] >= 2 && sheet[MARK] <= MOST_AXES)
+        next.d = sheet[MARK];
+    begin_root(&next);
+    while (at < sheet_length) {
+        header h;
+        if (!is_next(&next, sheet + at, sheet_length - at, &h)) {
+            answer.refusal = read_record(sheet + at, sheet_length - at).refusal;
+            answer.refusal = answer.refusal ? answer.refusal : RMK_REFUSED_LEAF;
+            break;
+        }
+        pass_next(&next, h);
+        at += record_length(h);
+        records++;
+    }
+    if (!answer.refusal && !next.complete)
+        answer.refusal = RMK_REFUSED_LEAF;
+    if (answer.refusal)
+        answer.offset = at;
+    else
+        answer.records = records;
+    return answer;
+}

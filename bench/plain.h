@@ -21,4 +21,7 @@ rmk_crossed plain_cross(const uint8_t *code, size_t code_length, uint8_t facet, 
                         size_t out_length);
 rmk_sheet_answer plain_sheet_check(const uint8_t *sheet, size_t sheet_length);
 
+/* The sheet check once more, by another way: the next cell is kept as a code, and each record compared with it. */
+rmk_sheet_answer plain_sheet_by_next(const uint8_t *sheet, size_t sheet_length);
+
 #endif

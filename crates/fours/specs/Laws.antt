@@ -18,12 +18,12 @@ use Rattle.fours.specs.declared.Four.{Four}
 use Rattle.fours.specs.Fours.{four, noEntries, Holds, SameFour, BackIs}
 
 -- the entry that a place has
-pub entry-is : (e : Four) (n : ℕ) → n < 4 → (n ≡ 0 → ⊥) → (n ≡ 1 → ⊥) → (n ≡ 2 → ⊥) → e .fourth ≡ getD (four e) n 0
-entry-is e zero h a b c = absurd (a refl)
-entry-is e (suc zero) h a b c = absurd (b refl)
-entry-is e (suc (suc zero)) h a b c = absurd (c refl)
-entry-is e (suc (suc (suc zero))) h a b c = refl
-entry-is e (suc (suc (suc (suc n)))) h a b c = absurd (omega arith)
+pub entry-is : (e : Four) (n : ℕ) → n < 4 → cond (eqb n 0) (e .first) (cond (eqb n 1) (e .second) (cond (eqb n 2) (e .third) (e .fourth))) ≡ getD (four e) n 0
+entry-is e zero h = refl
+entry-is e (suc zero) h = refl
+entry-is e (suc (suc zero)) h = refl
+entry-is e (suc (suc (suc zero))) h = refl
+entry-is e (suc (suc (suc (suc n)))) h = absurd (omega arith)
 
 abbrev pub fourOf : ℕ → ℕ → ℕ → ℕ → Four
 fourOf a b c d = record { first = a; second = b; third = c; fourth = d }

@@ -3,7 +3,7 @@ use mathlib.Core.Path.{_≡_, refl, sym, ap, _∙_, subst}
 use mathlib.Core.Bool.{Bool, true, false}
 use mathlib.Core.List.{List, [], _∷_, _++_, append-assoc, append-nil}
 use mathlib.Core.Logic.{_≢_}
-use Prim.Native.Nat.{ℕ, suc, _+_, _-_, _^_, _≤_, _<_}
+use Prim.Native.Nat.{ℕ, zero, suc, _+_, _-_, _*_, _^_, _≤_, _<_}
 use native.Mathlib.Omega.{arith}
 use lib.Dec.{T}
 use lib.ListN.{length, getD, take, drop, length-append, length-drop, drop-of-length-le}
@@ -14,23 +14,23 @@ use Rattle.bisection.specs.Roots.{roots}
 use Rattle.bisection.specs.Codes.{codeOf, IsCodeOf}
 use Rattle.bisection.specs.Refusals.{done, codeRefusal}
 use Rattle.bisection.specs.Theorems.CodePaths.{one-path, code-passes}
-use Rattle.codes.specs.Fronts.{frontDimension, frontCode}
-use Rattle.codes.specs.Fronts.Laws.{front-code-dimension, front-root, front-known}
+use Rattle.codes.specs.Fronts.{frontDimension, frontLength, frontCode}
+use Rattle.codes.specs.Fronts.Laws.{front-code-dimension, front-root}
 use Rattle.positions.specs.RootNumbers.{roots-count, roots-some, roots-few}
 use Rattle.next.specs.declared.Next.{Next}
 use Rattle.next.specs.declared.Match.{Match}
 use Rattle.next.specs.declared.Onward.{Onward}
 use Rattle.next.specs.Paths.{steps, zeros}
-use Rattle.next.specs.Nexts.{Stands, First, Matched, Gone, on, over, AfterIs, FirstIs}
+use Rattle.next.specs.Nexts.{Stands, First, Matched, MatchIs, Gone, on, over, AfterIs, FirstIs}
 use Rattle.next.specs.Matching.{matched-ready}
 use Rattle.sheets.specs.declared.State.{State}
 use Rattle.sheets.specs.declared.SheetAnswer.{SheetAnswer}
 use Rattle.sheets.specs.Forests.{TreeCell, treeCell, Leaves}
-use Rattle.sheets.specs.Sheets.{refusedLeaf, GoodSheet, Begins, behindMark, bodyLength, recordLength, recordRefusal, Read, start, next, told, Checks, good, record-refused, not-next, ended-early}
-use Rattle.sheets.specs.Steps.{stateOf, OpenIs, was-open, opens, shut, Known, bodyOf, FitsIs, no-dimension, unmarked, no-root, other, cut-short, fitting, MoveReady, MoveIs}
+use Rattle.sheets.specs.Sheets.{refusedLeaf, GoodSheet, Begins, behindMark, isMarked, bodyLength, recordLength, recordRefusal, Read, start, next, told, Checks, good, record-refused, not-next, ended-early}
+use Rattle.sheets.specs.Steps.{stateOf, OpenIs, opens, shut, Known, bodyOf, FitsIs, no-dimension, unmarked, no-root, other, cut-short, fitting, MoveReady, MoveIs}
 use Rattle.sheets.specs.Steps as steps-of
 use Rattle.sheets.specs.StepLaws.{parts-marked, parts-passed, record-marked, part-all}
-use Rattle.sheets.specs.Theorems.Frontier.{advance, advance-on, advance-over, Follows, end, leaf, begins-follows, follows-begins, good-follows, follows-good, follows-one, follows-split, follows-join}
+use Rattle.sheets.specs.Theorems.Frontier.{advance, advance-on, advance-over, Follows, end, leaf, begins-follows, follows-begins, good-follows, follows-good, follows-one, Split, follows-split, follows-join}
 use Rattle.sheets.specs.Theorems.Frontier as frontier
 use Rattle.sheets.specs.Theorems.Reading.{passed, unmarked-by-code}
 use Rattle.sheets.specs.Theorems.Listing.{GoodCell, recordOf, IsRecord, record-read, Listed, listed-none, listed-more, listed-join, listed-empty, Cut, cut}
@@ -117,6 +117,10 @@ last-dimension : {d : ℕ} (cs : List TreeCell) (c : TreeCell) → CellsIn d (cs
 last-dimension [] c (cells-more g e l) = e
 last-dimension (x ∷ cs) c (cells-more g e l) = last-dimension cs c l
 
+some-of : (cs : List TreeCell) → cs ≢ [] → 0 < length cs
+some-of [] n = absurd (n refl)
+some-of (c ∷ cs) n = omega arith
+
 listed-good : {mark : List ℕ} {width : ℕ} {sheet : List ℕ} {n : ℕ} (g : GoodSheet mark width sheet n) → Listed mark width (g .cells) sheet
 listed-good g = records-listed (leaves-cells (g .dimension) (g .is-dimension) (g .leaves)) (g .records)
 
@@ -128,51 +132,32 @@ pub record Behind (mark : List ℕ) (width : ℕ) (sheet : List ℕ) (offset rec
   pub count : length cells ≡ records
   pub reading : Read mark width sheet offset records
 
--- no record yet, or in a dimension
-pub data Front (cells : List TreeCell) (s : State) : Type 0 where
-  fresh : cells ≡ [] → s .dimension ≡ 0 → Front cells s
-  within : isDimension (s .dimension) ≡ true → 0 < length cells → Ahead (s .dimension) cells (s .root) (s .next) → Front cells s
+behind-none : {mark : List ℕ} {width : ℕ} {sheet : List ℕ} → Behind mark width sheet 0 0 []
+behind-none = record { inside = omega arith; few = omega arith; listed = listed-none; count = refl; reading = start }
+
+-- in the dimension of the record that comes, where that passes; or no record can
+pub data Ready (mark : List ℕ) (width : ℕ) (sheet : List ℕ) (cells : List TreeCell) (s : State) : Type 0 where
+  never : cells ≡ [] → s .dimension ≡ 0 → recordRefusal mark width (drop (s .offset) sheet) ≢ done → Ready mark width sheet cells s
+  known : isDimension (s .dimension) ≡ true → Ahead (s .dimension) cells (s .root) (s .next)
+      → ((d : ℕ) (c : TreeCell) → length (c .root) ≡ frontDimension (behindMark mark (drop (s .offset) sheet)) → CellsIn d (cells ++ c ∷ []) → s .dimension ≡ d) → Ready mark width sheet cells s
 
 pub record Going (mark : List ℕ) (width : ℕ) (sheet : List ℕ) (s : State) : Type 0 where
   pub cells : List TreeCell
   pub behind : Behind mark width sheet (s .offset) (s .records) cells
-  pub front : Front cells s
-
-pub going-start : (mark : List ℕ) (width : ℕ) (sheet : List ℕ) (n : Next) → Going mark width sheet (stateOf 0 0 0 0 n)
-going-start mark width sheet n = record { cells = []; behind = record { inside = omega arith; few = omega arith; listed = listed-none; count = refl; reading = start }; front = fresh refl refl }
-
--- with the dimension of the record that comes, where that passes
-pub data Ready (mark : List ℕ) (width : ℕ) (sheet : List ℕ) (cells : List TreeCell) (s : State) : Type 0 where
-  never : s .dimension ≡ 0 → recordRefusal mark width (drop (s .offset) sheet) ≢ done → Ready mark width sheet cells s
-  known : isDimension (s .dimension) ≡ true → Ahead (s .dimension) cells (s .root) (s .next)
-      → ((d : ℕ) (c : TreeCell) → length (c .root) ≡ frontDimension (behindMark mark (drop (s .offset) sheet)) → CellsIn d (cells ++ c ∷ []) → s .dimension ≡ d) → Ready mark width sheet cells s
-
-pub record Opened (mark : List ℕ) (width : ℕ) (sheet : List ℕ) (s : State) : Type 0 where
-  pub cells : List TreeCell
-  pub behind : Behind mark width sheet (s .offset) (s .records) cells
   pub ready : Ready mark width sheet cells s
+
+pub going-start : (mark : List ℕ) (width : ℕ) (sheet : List ℕ) {s : State} → OpenIs mark sheet s → Going mark width sheet s
+going-start mark width sheet (opens {n = n} {d = d} k q f e) = subst (Going mark width sheet) (sym e) (record { cells = []; behind = behind-none; ready = known k (ahead-first d n f) (λ i c o v. q ∙ sym o ∙ last-dimension [] c v) })
+going-start mark width sheet (shut h e) = subst (Going mark width sheet) (sym e) (record { cells = []; behind = behind-none; ready = never refl refl (h width) })
 
 some-dimension : (n : ℕ) → isDimension n ≡ true → n ≢ 0
 some-dimension n e q = omega (arith, dimension n e .two)
 
-pub go-opened : {mark : List ℕ} {width : ℕ} {sheet : List ℕ} {s r : State} → Going mark width sheet s → OpenIs mark s (drop (s .offset) sheet) r → Opened mark width sheet r × (r .offset ≡ s .offset)
-go-opened {mark} {width} {sheet} {s} {r} g (was-open h e) = (subst (Opened mark width sheet) (sym e) (record { cells = g .cells; behind = g .behind; ready = by (g .front) }), ap (λ (x : State). x .offset) e)
-  where
-    by : Front (g .cells) s → Ready mark width sheet (g .cells) s
-    by (fresh a z) = absurd (h z)
-    by (within k l w) = known k w (λ d c q v. same-dimension l (w .cells-in) (cells-front (g .cells) (c ∷ []) v))
-go-opened {mark} {width} {sheet} {s} {r} g (opens {n = n} {d = d} z p q f e) = (subst (Opened mark width sheet) (sym e) (record { cells = g .cells; behind = g .behind; ready = by (g .front) }), ap (λ (x : State). x .offset) e)
-  where
-    by : Front (g .cells) s → Ready mark width sheet (g .cells) (stateOf (s .offset) (s .records) d 0 n)
-    by (fresh a z) = known (rw q (front-known (behindMark mark (drop (s .offset) sheet)) p)) (rw a (ahead-first d n f)) (λ i c o v. q ∙ sym o ∙ last-dimension (g .cells) c v)
-    by (within k l w) = absurd (some-dimension (s .dimension) k z)
-go-opened {mark} {width} {sheet} {s} {r} g (shut z h e) = (subst (Opened mark width sheet) (sym e) (record { cells = g .cells; behind = g .behind; ready = never z (h width) }), ap (λ (x : State). x .offset) e)
-
-pub opened-known : {mark : List ℕ} {width : ℕ} {sheet : List ℕ} {s : State} → Opened mark width sheet s → Known s
-opened-known {mark} {width} {sheet} {s} o = record { known = λ n. by n (o .ready) }
+pub go-known : {mark : List ℕ} {width : ℕ} {sheet : List ℕ} {s : State} → Going mark width sheet s → Known s
+go-known {mark} {width} {sheet} {s} o = record { known = λ n. by n (o .ready) }
   where
     by : s .dimension ≢ 0 → Ready mark width sheet (o .cells) s → isDimension (s .dimension) ≡ true
-    by n (never z h) = absurd (n z)
+    by n (never a z h) = absurd (n z)
     by n (known k w q) = k
 
 -- a record whose code matches has the length that its bytes tell
@@ -184,7 +169,7 @@ fit-body mark width bs s st h = rw (h .length-is, axes) refl
     axes = sym (st .cell .rooted .axes) ∙ sym (front-root (h .first .code-of)) ∙ front-code-dimension (behindMark mark bs)
 
 -- a record that passes its own tests
-module _ {mark : List ℕ} {width : ℕ} {sheet : List ℕ} {s : State} (o : Opened mark width sheet s) (ok : recordRefusal mark width (drop (s .offset) sheet) ≡ done) where
+module _ {mark : List ℕ} {width : ℕ} {sheet : List ℕ} {s : State} (o : Going mark width sheet s) (ok : recordRefusal mark width (drop (s .offset) sheet) ≡ done) where
   abbrev bs : List ℕ
   bs = drop (s .offset) sheet
 
@@ -244,7 +229,7 @@ module _ {mark : List ℕ} {width : ℕ} {sheet : List ℕ} {s : State} (o : Ope
   not-begun {r} f e b = by (o .ready) f
     where
       by : Ready mark width sheet (o .cells) s → FitsIs mark width s bs r → ⊥
-      by (never z h) f = h ok
+      by (never a z h) f = h ok
       by (known k w q) (no-dimension z x) = some-dimension (s .dimension) k z
       by (known k w q) (unmarked m x) = subst T (sym (parts-marked mark width bs ok) ∙ m) tt
       by (known k w q) (no-root z x) = omega (arith, begins-first b k w q .0, z, roots-count (s .dimension))
@@ -278,7 +263,7 @@ module _ {mark : List ℕ} {width : ℕ} {sheet : List ℕ} {s : State} (o : Ope
         count = length-append (o .cells) (c ∷ []) ∙ ap (λ (k : ℕ). k + 1) (o .behind .count);
         reading = subst (λ (k : ℕ). Read mark width sheet (s .offset + n) k) plus (next (o .behind .reading) ok refl begun);
       };
-      front = within k (omega (arith, length-append (o .cells) (c ∷ []))) w;
+      ready = known k w (λ i x q v. same-dimension (omega (arith, length-append (o .cells) (c ∷ []))) (w .cells-in) (cells-front (o .cells ++ c ∷ []) (x ∷ []) v));
     }
       where
         plus : suc (s .records) ≡ s .records + 1
@@ -293,13 +278,9 @@ pub record Fitted (mark : List ℕ) (width : ℕ) (sheet : List ℕ) (cells : Li
   pub ok : recordRefusal mark width (drop (s .offset) sheet) ≡ done
   pub size : bodyOf width s r ≡ bodyLength width (behindMark mark (drop (s .offset) sheet))
 
-module _ {mark : List ℕ} {width : ℕ} {sheet : List ℕ} {s : State} (o : Opened mark width sheet s) {r : Match} (f : FitsIs mark width s (drop (s .offset) sheet) r) where
-  -- it does not fit
-  pub opened-leaf : s .offset < length sheet → r .length ≡ 0 → recordRefusal mark width (drop (s .offset) sheet) ≡ done → Checks mark width sheet (told refusedLeaf (s .offset) 0)
-  opened-leaf lt e ok = not-next (o .behind .reading) lt ok (not-begun o ok f e) refl
-
-  pub opened-fits : r .length ≢ 0 → Fitted mark width sheet (o .cells) s r
-  opened-fits h = by (o .ready) f
+module _ {mark : List ℕ} {width : ℕ} {sheet : List ℕ} {s : State} (o : Going mark width sheet s) {r : Match} (f : FitsIs mark width s (drop (s .offset) sheet) r) where
+  fitted : r .length ≢ 0 → Fitted mark width sheet (o .cells) s r
+  fitted h = by (o .ready) f
     where
       by : Ready mark width sheet (o .cells) s → FitsIs mark width s (drop (s .offset) sheet) r → Fitted mark width sheet (o .cells) s r
       by q (no-dimension z x) = absurd (h x)
@@ -307,7 +288,7 @@ module _ {mark : List ℕ} {width : ℕ} {sheet : List ℕ} {s : State} (o : Ope
       by q (no-root z x) = absurd (h x)
       by q (other m z x) = absurd (h x)
       by q (cut-short m z l x) = absurd (h x)
-      by (never z x) (fitting y m q p e l) = absurd (y z)
+      by (never a z x) (fitting y m q p e l) = absurd (y z)
       by (known k w q) (fitting y m x p e l) = record {
         dimension-known = k;
         ahead = w;
@@ -334,13 +315,13 @@ pub record Moved (mark : List ℕ) (width : ℕ) (sheet : List ℕ) (s t : State
   pub going-on : Going mark width sheet t
   pub farther : s .offset < t .offset
 
-module _ {mark : List ℕ} {width : ℕ} {sheet : List ℕ} {s : State} (o : Opened mark width sheet s) {r : Match} (two : length mark ≡ 2) (f : Fitted mark width sheet (o .cells) s r) where
+module _ {mark : List ℕ} {width : ℕ} {sheet : List ℕ} {s : State} (o : Going mark width sheet s) {r : Match} (two : length mark ≡ 2) (f : Fitted mark width sheet (o .cells) s r) where
   long : 2 + bodyOf width s r ≡ recordLength mark width (drop (s .offset) sheet)
   unfolding recordLength
   long = rw (two, f .size) refl
 
-  pub opened-ready : length sheet < 2 ^ 64 → MoveReady width s r
-  opened-ready h =
+  fitted-ready : length sheet < 2 ^ 64 → MoveReady width s r
+  fitted-ready h =
       let room = record-inside mark width (drop (s .offset) sheet) (f .ok) in
       record {
         dimension = f .dimension-known;
@@ -353,8 +334,8 @@ module _ {mark : List ℕ} {width : ℕ} {sheet : List ℕ} {s : State} (o : Ope
   the-cell : IsRecord.of (it o (f .ok)) ≡ treeCell (getD (roots (s .dimension)) (s .root) []) (steps (zeros (f .match .first .n) (f .ahead .path)))
   the-cell = let e = one-path (code-of o (f .ok)) (f .match .first .code-of) in λ i. record { root = e .0 i; path = e .1 i }
 
-  pub opened-on : {t : State} → MoveIs width s r t → Moved mark width sheet s t
-  opened-on {t} m = by m
+  fitted-on : {t : State} → MoveIs width s r t → Moved mark width sheet s t
+  fitted-on {t} m = by m
     where
       here : List ℕ
       here = getD (roots (s .dimension)) (s .root) []
@@ -382,26 +363,19 @@ module _ {mark : List ℕ} {width : ℕ} {sheet : List ℕ} {s : State} (g : Goi
     pub go-own : (x : ℕ) → x ≡ recordRefusal mark width part → x ≢ done → Checks mark width sheet (told x (s .offset) 0)
     go-own x e h = let q = e ∙ ap (recordRefusal mark width) (part-all sheet (s .offset)) in record-refused (g .behind .reading) lt (λ z. h (q ∙ z)) (ap (λ (i : ℕ). told i (s .offset) 0) q)
 
-    module _ {r : State} (op : OpenIs mark s part r) where
-      o : Opened mark width sheet r × (r .offset ≡ s .offset)
-      o = go-opened g (subst (λ (l : List ℕ). OpenIs mark s l r) (part-all sheet (s .offset)) op)
+    module _ {m : Match} (fit : FitsIs mark width s part m) where
+      f : FitsIs mark width s (drop (s .offset) sheet) m
+      f = subst (λ (l : List ℕ). FitsIs mark width s l m) (part-all sheet (s .offset)) fit
 
-      pub go-known : Known r
-      go-known = opened-known (o .0)
+      pub go-leaf : m .length ≡ 0 → (x : ℕ) → x ≡ recordRefusal mark width part → x ≡ done → Checks mark width sheet (told refusedLeaf (s .offset) 0)
+      go-leaf z x e q = let ok = ap (recordRefusal mark width) (sym (part-all sheet (s .offset))) ∙ sym e ∙ q in not-next (g .behind .reading) lt ok (not-begun g ok f z) refl
 
-      module _ {m : Match} (fit : FitsIs mark width r part m) where
-        f : FitsIs mark width r (drop (r .offset) sheet) m
-        f = subst (λ (l : List ℕ). FitsIs mark width r l m) (part-all sheet (s .offset) ∙ ap (λ (i : ℕ). drop i sheet) (sym (o .1))) fit
+      module _ (two : length mark ≡ 2) (h : m .length ≢ 0) where
+        pub go-ready : length sheet < 2 ^ 64 → MoveReady width s m
+        go-ready l = fitted-ready g two (fitted g f h) l
 
-        pub go-leaf : m .length ≡ 0 → (x : ℕ) → x ≡ recordRefusal mark width part → x ≡ done → Checks mark width sheet (told refusedLeaf (s .offset) 0)
-        go-leaf z x e q = rw (o .1) at (opened-leaf (o .0) f (omega (arith, o .1)) z (ap (recordRefusal mark width) (ap (λ (i : ℕ). drop i sheet) (o .1) ∙ sym (part-all sheet (s .offset))) ∙ sym e ∙ q))
-
-        module _ (two : length mark ≡ 2) (h : m .length ≢ 0) where
-          pub go-ready : length sheet < 2 ^ 64 → MoveReady width r m
-          go-ready l = opened-ready (o .0) two (opened-fits (o .0) f h) l
-
-          pub go-on : {t : State} → MoveIs width r m t → Moved mark width sheet s t
-          go-on v = let w = opened-on (o .0) two (opened-fits (o .0) f h) v in record { going-on = w .going-on; farther = omega (arith, w .farther, o .1) }
+        pub go-on : {t : State} → MoveIs width s m t → Moved mark width sheet s t
+        go-on v = fitted-on g two (fitted g f h) v
 
   -- the ways out behind the loop
   module _ (le : length sheet ≤ s .offset) where
@@ -420,41 +394,38 @@ module _ {mark : List ℕ} {width : ℕ} {sheet : List ℕ} {s : State} (g : Goi
     over-in : {m : ℕ} (h : GoodSheet mark width sheet m) → (x : frontier.State) × Follows (frontier.state (roots (h .dimension)) []) (g .cells) x × (x .roots ≡ [])
     over-in h = good-follows (subst (Leaves (roots (h .dimension)) (greatestDepth (h .dimension))) (the-cells h) (h .leaves))
 
-    pub go-fresh : s .dimension ≡ 0 → Checks mark width sheet (told refusedLeaf (s .offset) 0)
-    go-fresh z = ended-early (g .behind .reading) at-end (λ m h. none (g .front) h) refl
-      where
-        none : {m : ℕ} → Front (g .cells) s → GoodSheet mark width sheet m → ⊥
-        none (fresh a b) h =
-            let x = over-in h in
-            let no-roots : roots (h .dimension) ≡ [] = ap (λ (x : frontier.State). x .roots) (follows-one end (subst (λ (l : List TreeCell). Follows (frontier.state (roots (h .dimension)) []) l (x .0)) a (x .1))) ∙ x .2 in
-            omega (arith, roots-some (h .dimension), ap length no-roots)
-        none (within a l w) h = some-dimension (s .dimension) a z
+    -- and it has some
+    some-cells : {m : ℕ} → GoodSheet mark width sheet m → g .cells ≢ []
+    some-cells h a =
+        let x = over-in h in
+        let no-roots : roots (h .dimension) ≡ [] = ap (λ (x : frontier.State). x .roots) (follows-one end (subst (λ (l : List TreeCell). Follows (frontier.state (roots (h .dimension)) []) l (x .0)) a (x .1))) ∙ x .2 in
+        omega (arith, roots-some (h .dimension), ap length no-roots)
 
-    pub go-dimension : s .dimension ≢ 0 → isDimension (s .dimension) ≡ true
-    go-dimension z = by (g .front)
+    pub go-fresh : s .dimension ≡ 0 → Checks mark width sheet (told refusedLeaf (s .offset) 0)
+    go-fresh z = ended-early (g .behind .reading) at-end (λ m h. none (g .ready) h) refl
       where
-        by : Front (g .cells) s → isDimension (s .dimension) ≡ true
-        by (fresh a b) = absurd (z b)
-        by (within a l w) = a
+        none : {m : ℕ} → Ready mark width sheet (g .cells) s → GoodSheet mark width sheet m → ⊥
+        none (never a b x) h = some-cells h a
+        none (known a w q) h = some-dimension (s .dimension) a z
 
     pub go-early : s .dimension ≢ 0 → s .root ≢ rootCount (s .dimension) → Checks mark width sheet (told refusedLeaf (s .offset) 0)
-    go-early z q = ended-early (g .behind .reading) at-end (λ m h. none (g .front) h) refl
+    go-early z q = ended-early (g .behind .reading) at-end (λ m h. none (g .ready) h) refl
       where
-        none : {m : ℕ} → Front (g .cells) s → GoodSheet mark width sheet m → ⊥
-        none (fresh a b) h = z b
-        none (within a l w) h =
+        none : {m : ℕ} → Ready mark width sheet (g .cells) s → GoodSheet mark width sheet m → ⊥
+        none (never a b y) h = z b
+        none (known a w y) h =
             let x = over-in h in
-            let e : h .dimension ≡ s .dimension = same-dimension l (subst (CellsIn (h .dimension)) (the-cells h) (leaves-cells (h .dimension) (h .is-dimension) (h .leaves))) (w .cells-in) in
+            let e : h .dimension ≡ s .dimension = same-dimension (some-of (g .cells) (some-cells h)) (subst (CellsIn (h .dimension)) (the-cells h) (leaves-cells (h .dimension) (h .is-dimension) (h .leaves))) (w .cells-in) in
             let f : Follows (frontier.state (roots (s .dimension)) []) (g .cells) (x .0) = subst (λ (d : ℕ). Follows (frontier.state (roots d) []) (g .cells) (x .0)) e (x .1) in
             let none-left : drop (s .root) (roots (s .dimension)) ≡ [] = ap (λ (x : frontier.State). x .roots) (follows-one (w .follows) f) ∙ x .2 in
             q (omega (arith, w .root-in, length-drop (s .root) (roots (s .dimension)), ap length none-left, roots-count (s .dimension)))
 
     pub go-good : s .dimension ≢ 0 → s .root ≡ rootCount (s .dimension) → Checks mark width sheet (told done 0 (s .records))
-    go-good z q = by (g .front)
+    go-good z q = by (g .ready)
       where
-        by : Front (g .cells) s → Checks mark width sheet (told done 0 (s .records))
-        by (fresh a b) = absurd (z b)
-        by (within a l w) =
+        by : Ready mark width sheet (g .cells) s → Checks mark width sheet (told done 0 (s .records))
+        by (never a b y) = absurd (z b)
+        by (known a w y) =
             let past : length (roots (s .dimension)) ≤ s .root = omega (arith, roots-count (s .dimension)) in
             let none-left : drop (s .root) (roots (s .dimension)) ≡ [] = drop-of-length-le (roots (s .dimension)) past in
             good (record {

@@ -177,13 +177,13 @@ module _ (mark : List ℕ) (width : ℕ) (bs : List ℕ) (e : recordRefusal mark
     parts-are n q = record { dimension-is = is .dimension head-passes; code-is = is .length head-passes; whole-is = q ∙ parts-whole }
 
 -- the ways out of `opened`
-module _ (mark : List ℕ) (s : State) (bs : List ℕ) (z : s .dimension ≡ 0) where
-  pub open-unmarked : isMarked mark bs ≡ false → OpenIs mark s bs s
-  open-unmarked m = shut z (λ width e. omega (arith, record-unmarked mark width bs m, e)) refl
+module _ (mark bs : List ℕ) (n : Next) where
+  pub open-unmarked : isMarked mark bs ≡ false → OpenIs mark bs (stateOf 0 0 0 0 n)
+  open-unmarked m = shut (λ width e. omega (arith, record-unmarked mark width bs m, e)) refl
 
   module _ (m : isMarked mark bs ≡ true) (h : Head) (is : HeadIs (behindMark mark bs) h) where
-    pub open-refused : h .refusal ≢ done → OpenIs mark s bs s
-    open-refused n = shut z (λ width e. n (body-head width (behindMark mark bs) h is n ∙ record-marked mark width bs m _ refl ∙ e)) refl
+    pub open-refused : h .refusal ≢ done → OpenIs mark bs (stateOf 0 0 0 0 n)
+    open-refused r = shut (λ width e. r (body-head width (behindMark mark bs) h is r ∙ record-marked mark width bs m _ refl ∙ e)) refl
 
     module _ (e : h .refusal ≡ done) where
       front-passes : frontRefusal (behindMark mark bs) ≡ done
@@ -192,8 +192,8 @@ module _ (mark : List ℕ) (s : State) (bs : List ℕ) (z : s .dimension ≡ 0) 
       pub open-known : isDimension (h .dimension) ≡ true
       open-known = rw (is .dimension front-passes) (front-known (behindMark mark bs) front-passes)
 
-      pub open-first : (n : Next) (d : ℕ) → d ≡ h .dimension → FirstIs d 0 n → OpenIs mark s bs (stateOf (s .offset) (s .records) (h .dimension) 0 n)
-      open-first n d q f = opens z front-passes (is .dimension front-passes) (subst (λ (i : ℕ). FirstIs i 0 n) q f) refl
+      pub open-first : (d : ℕ) → d ≡ h .dimension → FirstIs d 0 n → OpenIs mark bs (stateOf 0 0 (h .dimension) 0 n)
+      open-first d q f = opens open-known (is .dimension front-passes) (subst (λ (i : ℕ). FirstIs i 0 n) q f) refl
 
 -- what is checked of the edition of document 01 is what the sheet check answers
 pub first-checks : {sheet : List ℕ} {r : SheetAnswer} (e : Edition) → IsFirst e → Checks (markOf e) (e .width) sheet r → SheetIs sheet r

@@ -7,7 +7,7 @@ use Prim.Native.Nat.{ℕ, suc, _+_, _*_, _^_, _≤_, _<_}
 use lib.ListN.{length}
 use Rattle.dimension.specs.Sizes.{isDimension, rootCount}
 use Rattle.bisection.specs.Refusals.{done}
-use Rattle.codes.specs.Fronts.{frontRefusal, frontDimension, frontLength}
+use Rattle.codes.specs.Fronts.{frontDimension, frontLength}
 use Rattle.next.specs.declared.Next.{Next}
 use Rattle.next.specs.declared.Match.{Match}
 use Rattle.next.specs.declared.Onward.{Onward}
@@ -34,11 +34,10 @@ pub record PartsAre (mark : List ℕ) (width : ℕ) (bs : List ℕ) (r : RecordP
 abbrev pub stateOf : ℕ → ℕ → ℕ → ℕ → Next → State
 stateOf offset records dimension root next = record { offset = offset; records = records; dimension = dimension; root = root; next = next }
 
--- a state that has a dimension stays as it is; one that has none takes that of a first record whose head passes
-pub data OpenIs (mark : List ℕ) (s : State) (bs : List ℕ) (r : State) : Type 0 where
-  was-open : s .dimension ≢ 0 → r ≡ s → OpenIs mark s bs r
-  opens : {n : Next} {d : ℕ} → s .dimension ≡ 0 → frontRefusal (behindMark mark bs) ≡ done → d ≡ frontDimension (behindMark mark bs) → FirstIs d 0 n → r ≡ stateOf (s .offset) (s .records) d 0 n → OpenIs mark s bs r
-  shut : s .dimension ≡ 0 → ((width : ℕ) → recordRefusal mark width bs ≢ done) → r ≡ s → OpenIs mark s bs r
+-- at the first root of the dimension that the first record names; or no record can, and the first one is refused by itself
+pub data OpenIs (mark bs : List ℕ) (r : State) : Type 0 where
+  opens : {n : Next} {d : ℕ} → isDimension d ≡ true → d ≡ frontDimension (behindMark mark bs) → FirstIs d 0 n → r ≡ stateOf 0 0 d 0 n → OpenIs mark bs r
+  shut : {n : Next} → ((width : ℕ) → recordRefusal mark width bs ≢ done) → r ≡ stateOf 0 0 0 0 n → OpenIs mark bs r
 
 pub record Known (s : State) : Type 0 where
   pub known : s .dimension ≢ 0 → isDimension (s .dimension) ≡ true

@@ -45,8 +45,8 @@ pub struct SheetAnswer {
     pub records: usize,
 }
 
-// What has been read: how far, how many records, and the next cell with its root's number. Dimension 0: no record yet, and the
-// next cell is none. The running position on the line is the root's number and the next cell's path, in parts of its size.
+// What has been read: how far, how many records, and the next cell with its root's number. Dimension 0: no record has named one,
+// and there is no next cell. The running position on the line is the root's number and the next cell's path, in parts of its size.
 struct State {
     offset: usize,
     records: usize,
@@ -130,25 +130,29 @@ pub fn record_parts(edition: Edition, bytes: &[u8]) -> RecordParts
     }
 }
 
-// The state in the dimension that the first record names.
-fn opened(edition: Edition, state: State, bytes: &[u8]) -> State
-    ensures { λ r. ⌜ OpenIs (markOf edition) state (now (bytes .entry)) r ⌝ }
+// The state before the first record: at the first root of the dimension that the record names.
+fn opened(edition: Edition, sheet: &[u8]) -> State
+    ensures { λ r. ⌜ OpenIs (markOf edition) (now (sheet .entry)) r ⌝ }
 {
-    if state.dimension != 0 {
-        return state;
+    let none = State {
+        offset: 0,
+        records: 0,
+        dimension: 0,
+        root: 0,
+        next: next::first(Dim::Two, 0),
+    };
+    if !is_marked(edition, sheet) {
+        return none;
     }
-    if !is_marked(edition, bytes) {
-        return state;
-    }
-    let head = codes::code_head(&bytes[MARK_LENGTH..]);
+    let head = codes::code_head(&sheet[MARK_LENGTH..]);
     if head.refusal != DONE {
-        return state;
+        return none;
     }
     let dimension = head.dimension;
     let next = next::first(Dim::checked(dimension), 0);
     State {
-        offset: state.offset,
-        records: state.records,
+        offset: 0,
+        records: 0,
         dimension,
         root: 0,
         next,
@@ -233,19 +237,11 @@ pub fn sheet_check(sheet: &[u8]) -> SheetAnswer
     ensures { λ r. ⌜ SheetIs (now (sheet .entry)) r ⌝ }
 {
     let edition = first_edition();
-    let none = next::first(Dim::Two, 0);
-    let mut state = State {
-        offset: 0,
-        records: 0,
-        dimension: 0,
-        root: 0,
-        next: none,
-    };
+    let mut state = opened(edition, sheet);
     while state.offset < sheet.len() {
         let offset = state.offset;
         let bytes = &sheet[offset..];
-        let ready = opened(edition, state, bytes);
-        let found = fits(edition, ready, bytes);
+        let found = fits(edition, state, bytes);
         if found.length == 0 {
             let refusal = record_refusal(edition, bytes);
             if refusal != DONE {
@@ -253,7 +249,7 @@ pub fn sheet_check(sheet: &[u8]) -> SheetAnswer
             }
             return refused(REFUSED_LEAF, offset);
         }
-        state = moved(edition, ready, found);
+        state = moved(edition, state, found);
     }
     if state.dimension == 0 {
         return refused(REFUSED_LEAF, state.offset);

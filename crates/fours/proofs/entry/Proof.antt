@@ -4,17 +4,21 @@ use borrow.Author.Needs.{needs}
 use Rattle.fours.proofs.entry.Statement.{statement}
 use Rattle.fours.proofs.entry.Tie as tie
 
+pick-requires : tie.Need-pick-requires
+pick-requires c κs = search needs
+
+pick-requires-2 : tie.Need-pick-requires-2
+pick-requires-2 c κs = search needs
+
+pick-requires-3 : tie.Need-pick-requires-3
+pick-requires-3 c κs = search needs
+
 returns : tie.Need-returns
-returns c = search needs
-
-returns-2 : tie.Need-returns-2
-returns-2 c = search needs
-
-returns-3 : tie.Need-returns-3
-returns-3 c = search needs
-
-returns-4 : tie.Need-returns-4
-returns-4 c = entry-is (c .before .args .e) (c .before .args .n) (c .before .pre) (c .match .rest .0 .0 .1) (c .match .rest .0 .1) (c .match .rest .1)
+returns c =
+    let pick = c .before .before .pick in
+    let args = c .before .before .before .args in
+    let pre = c .before .before .before .pre in
+    rw (c .pick3 .ensures, c .before .pick2 .ensures, pick .ensures) (entry-is (args .e) (args .n) (pre))
 
 pub entry-spec : {M : Type 1} → statement M
-entry-spec = tie.close (tie.spec returns returns-2 returns-3 returns-4)
+entry-spec = tie.close (tie.spec pick-requires pick-requires-2 pick-requires-3 returns)

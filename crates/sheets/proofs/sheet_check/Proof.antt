@@ -7,7 +7,7 @@ use lib.ListN.{length}
 use Rattle.dimension.specs.Sizes.{rootCount}
 use Rattle.sheets.specs.Steps.{markOf}
 use Rattle.sheets.specs.StepLaws.{first-checks}
-use Rattle.sheets.specs.Progress.{Going, going-start, go-own, go-known, go-leaf, go-ready, go-on, go-fresh, go-dimension, go-early, go-good, answer-told}
+use Rattle.sheets.specs.Progress.{Going, going-start, go-own, go-known, go-leaf, go-ready, go-on, go-fresh, go-early, go-good, answer-told}
 use borrow.Author.Needs.{needs}
 use Rattle.sheets.proofs.sheet_check.Statement.{statement}
 use Rattle.sheets.proofs.sheet_check.Tie as tie
@@ -18,61 +18,83 @@ Inv-loop sheet edition state₀ state = Going (markOf edition) (edition .width) 
 abbrev μ-loop : tie.MeasureT-loop
 μ-loop sheet edition state₀ state = length sheet - state .offset
 
+first-edition-requires : tie.Need-first-edition-requires Inv-loop μ-loop
+first-edition-requires c κs = search needs
+
+opened-requires : tie.Need-opened-requires Inv-loop μ-loop
+opened-requires c κs = search needs
+
 loop-holds : tie.Need-loop-holds Inv-loop μ-loop
 loop-holds c =
     let args = c .before .before .before .args in
-    going-start _ _ (args .sheet .now) _
+    going-start _ _ (args .sheet .now) (c .opened .ensures)
+
+sub-bytes : tie.Need-sub-bytes Inv-loop μ-loop
+sub-bytes c = search needs
+
+part-bytes-start : tie.Need-part-bytes-start Inv-loop μ-loop
+part-bytes-start c = search needs
+
+part-bytes-end : tie.Need-part-bytes-end Inv-loop μ-loop
+part-bytes-end c = search needs
 
 fits-requires : tie.Need-fits-requires Inv-loop μ-loop
 fits-requires c κs =
-    let loop = c .before .before .before .before .loop in
-    let if1 = c .before .before .if1 in
-    go-known (loop .inv) (if1 .taken) (c .opened .ensures)
+    let loop = c .before .before .before .loop in
+    go-known (loop .inv)
+
+record-refusal-requires : tie.Need-record-refusal-requires Inv-loop μ-loop
+record-refusal-requires c κs = search needs
+
+refused-requires : tie.Need-refused-requires Inv-loop μ-loop
+refused-requires c κs = search needs
 
 returns : tie.Need-returns Inv-loop μ-loop
 returns c =
-    let first-edition = c .before .before .before .before .before .before .before .before .before .before .before .before .first-edition in
-    let loop = c .before .before .before .before .before .before .before .before .before .before .loop in
-    let if1 = c .before .before .before .before .before .before .before .before .if1 in
+    let first-edition = c .before .before .before .before .before .before .before .before .before .before .before .first-edition in
+    let loop = c .before .before .before .before .before .before .before .before .before .loop in
+    let if1 = c .before .before .before .before .before .before .before .if1 in
     let record-refusal = c .before .before .record-refusal in
     first-checks _ (first-edition .ensures) (answer-told (c .refused .result) _ _ (c .refused .ensures) (go-own (loop .inv) (if1 .taken) _ (record-refusal .ensures) (c .before .if3 .taken)))
 
+refused-requires-2 : tie.Need-refused-requires-2 Inv-loop μ-loop
+refused-requires-2 c κs = search needs
+
 returns-2 : tie.Need-returns-2 Inv-loop μ-loop
 returns-2 c =
-    let first-edition = c .before .before .before .before .before .before .before .before .before .before .before .before .first-edition in
-    let loop = c .before .before .before .before .before .before .before .before .before .before .loop in
-    let if1 = c .before .before .before .before .before .before .before .before .if1 in
-    let opened = c .before .before .before .before .before .before .opened in
+    let first-edition = c .before .before .before .before .before .before .before .before .before .before .before .first-edition in
+    let loop = c .before .before .before .before .before .before .before .before .before .loop in
+    let if1 = c .before .before .before .before .before .before .before .if1 in
     let fits2 = c .before .before .before .before .before .fits2 in
     let if2 = c .before .before .before .if2 in
     let record-refusal = c .before .before .record-refusal in
     first-checks _ (first-edition .ensures) (answer-told (c .refused2 .result) _ _ (c .refused2 .ensures)
-    (go-leaf (loop .inv) (if1 .taken) (opened .ensures) (fits2 .ensures) (if2 .taken) _ (record-refusal .ensures) (c .before .if3 .left)))
+    (go-leaf (loop .inv) (if1 .taken) (fits2 .ensures) (if2 .taken) _ (record-refusal .ensures) (c .before .if3 .left)))
 
 moved-requires : tie.Need-moved-requires Inv-loop μ-loop
 moved-requires c κs =
-    let loop = c .before .before .before .before .before .before .before .loop in
-    let if1 = c .before .before .before .before .before .if1 in
-    let opened = c .before .before .before .opened in
+    let loop = c .before .before .before .before .before .before .loop in
+    let if1 = c .before .before .before .before .if1 in
     let fits2 = c .before .before .fits2 in
-    let good = c .before .before .before .before .before .before .before .before .before .before .before .good in
-    go-ready (loop .inv) (if1 .taken) (opened .ensures) (fits2 .ensures) refl (c .if2 .left) (good .0 .0)
+    let good = c .before .before .before .before .before .before .before .before .before .before .good in
+    go-ready (loop .inv) (if1 .taken) (fits2 .ensures) refl (c .if2 .left) (good .0 .0)
 
 loop-less : tie.Need-loop-less Inv-loop μ-loop
 loop-less c =
-    let loop = c .before .before .before .before .before .before .before .before .loop in
-    let if1 = c .before .before .before .before .before .before .if1 in
-    let opened = c .before .before .before .before .opened in
+    let loop = c .before .before .before .before .before .before .before .loop in
+    let if1 = c .before .before .before .before .before .if1 in
     let fits2 = c .before .before .before .fits2 in
-    let h = go-on (loop .inv) (if1 .taken) (opened .ensures) (fits2 .ensures) refl (c .before .if2 .left) (c .moved .ensures) in omega (arith, h .farther, h .going-on .behind .inside)
+    let h = go-on (loop .inv) (if1 .taken) (fits2 .ensures) refl (c .before .if2 .left) (c .moved .ensures) in omega (arith, h .farther, h .going-on .behind .inside)
 
 loop-again : tie.Need-loop-again Inv-loop μ-loop
 loop-again c =
-    let loop = c .before .before .before .before .before .before .before .before .loop in
-    let if1 = c .before .before .before .before .before .before .if1 in
-    let opened = c .before .before .before .before .opened in
+    let loop = c .before .before .before .before .before .before .before .loop in
+    let if1 = c .before .before .before .before .before .if1 in
     let fits2 = c .before .before .before .fits2 in
-    go-on (loop .inv) (if1 .taken) (opened .ensures) (fits2 .ensures) refl (c .before .if2 .left) (c .moved .ensures) .going-on
+    go-on (loop .inv) (if1 .taken) (fits2 .ensures) refl (c .before .if2 .left) (c .moved .ensures) .going-on
+
+refused-requires-3 : tie.Need-refused-requires-3 Inv-loop μ-loop
+refused-requires-3 c κs = search needs
 
 returns-3 : tie.Need-returns-3 Inv-loop μ-loop
 returns-3 c =
@@ -84,8 +106,13 @@ returns-3 c =
 checked-requires : tie.Need-checked-requires Inv-loop μ-loop
 checked-requires c κs =
     let loop = c .before .before .before .before .loop in
-    let if1 = c .before .before .if1 in
-    go-dimension (loop .inv) (if1 .left) (c .if4 .left)
+    go-known (loop .inv) .known (c .if4 .left)
+
+roots-requires : tie.Need-roots-requires Inv-loop μ-loop
+roots-requires c κs = search needs
+
+refused-requires-4 : tie.Need-refused-requires-4 Inv-loop μ-loop
+refused-requires-4 c κs = search needs
 
 returns-4 : tie.Need-returns-4 Inv-loop μ-loop
 returns-4 c =
@@ -114,26 +141,25 @@ sheet-check-spec =
     (tie.spec
     Inv-loop
     μ-loop
-    (λ c κs. search needs)
-    (λ c κs. search needs)
+    first-edition-requires
+    opened-requires
     loop-holds
-    (λ c. search needs)
-    (λ c. search needs)
-    (λ c. search needs)
-    (λ c κs. search needs)
+    sub-bytes
+    part-bytes-start
+    part-bytes-end
     fits-requires
-    (λ c κs. search needs)
-    (λ c κs. search needs)
+    record-refusal-requires
+    refused-requires
     returns
-    (λ c κs. search needs)
+    refused-requires-2
     returns-2
     moved-requires
     loop-less
     loop-again
-    (λ c κs. search needs)
+    refused-requires-3
     returns-3
     checked-requires
-    (λ c κs. search needs)
-    (λ c κs. search needs)
+    roots-requires
+    refused-requires-4
     returns-4
     returns-5)
