@@ -3,7 +3,7 @@ use mathlib.Core.Path.{_≡_, refl, sym, ap, _∙_, subst}
 use mathlib.Core.Bool.{Bool, true, false}
 use mathlib.Core.List.{List, [], _∷_, _++_, append-assoc, append-nil}
 use mathlib.Core.Logic.{_≢_}
-use Prim.Native.Nat.{ℕ, zero, suc, _+_, _-_, _*_, _^_, _≤_, _<_}
+use Prim.Native.Nat.{ℕ, suc, _+_, _-_, _^_, _≤_, _<_}
 use native.Mathlib.Omega.{arith}
 use lib.Dec.{T}
 use lib.ListN.{length, getD, take, drop, length-append, length-drop, drop-of-length-le}
@@ -14,23 +14,23 @@ use Rattle.bisection.specs.Roots.{roots}
 use Rattle.bisection.specs.Codes.{codeOf, IsCodeOf}
 use Rattle.bisection.specs.Refusals.{done, codeRefusal}
 use Rattle.bisection.specs.Theorems.CodePaths.{one-path, code-passes}
-use Rattle.codes.specs.Fronts.{frontDimension, frontLength, frontCode}
+use Rattle.codes.specs.Fronts.{frontDimension, frontCode}
 use Rattle.codes.specs.Fronts.Laws.{front-code-dimension, front-root}
 use Rattle.positions.specs.RootNumbers.{roots-count, roots-some, roots-few}
 use Rattle.next.specs.declared.Next.{Next}
 use Rattle.next.specs.declared.Match.{Match}
 use Rattle.next.specs.declared.Onward.{Onward}
 use Rattle.next.specs.Paths.{steps, zeros}
-use Rattle.next.specs.Nexts.{Stands, First, Matched, MatchIs, Gone, on, over, AfterIs, FirstIs}
+use Rattle.next.specs.Nexts.{Stands, First, Matched, Gone, on, over, AfterIs, FirstIs}
 use Rattle.next.specs.Matching.{matched-ready}
 use Rattle.sheets.specs.declared.State.{State}
 use Rattle.sheets.specs.declared.SheetAnswer.{SheetAnswer}
 use Rattle.sheets.specs.Forests.{TreeCell, treeCell, Leaves}
-use Rattle.sheets.specs.Sheets.{refusedLeaf, GoodSheet, Begins, behindMark, isMarked, bodyLength, recordLength, recordRefusal, Read, start, next, told, Checks, good, record-refused, not-next, ended-early}
+use Rattle.sheets.specs.Sheets.{refusedLeaf, GoodSheet, Begins, behindMark, bodyLength, recordLength, recordRefusal, Read, start, next, told, Checks, good, record-refused, not-next, ended-early}
 use Rattle.sheets.specs.Steps.{stateOf, OpenIs, opens, shut, Known, bodyOf, FitsIs, no-dimension, unmarked, no-root, other, cut-short, fitting, MoveReady, MoveIs}
 use Rattle.sheets.specs.Steps as steps-of
 use Rattle.sheets.specs.StepLaws.{parts-marked, parts-passed, record-marked, part-all}
-use Rattle.sheets.specs.Theorems.Frontier.{advance, advance-on, advance-over, Follows, end, leaf, begins-follows, follows-begins, good-follows, follows-good, follows-one, Split, follows-split, follows-join}
+use Rattle.sheets.specs.Theorems.Frontier.{advance, advance-on, advance-over, Follows, end, leaf, begins-follows, follows-begins, good-follows, follows-good, follows-one, follows-split, follows-join}
 use Rattle.sheets.specs.Theorems.Frontier as frontier
 use Rattle.sheets.specs.Theorems.Reading.{passed, unmarked-by-code}
 use Rattle.sheets.specs.Theorems.Listing.{GoodCell, recordOf, IsRecord, record-read, Listed, listed-none, listed-more, listed-join, listed-empty, Cut, cut}

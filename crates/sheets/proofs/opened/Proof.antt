@@ -7,25 +7,10 @@ use borrow.Author.Needs.{needs}
 use Rattle.sheets.proofs.opened.Statement.{statement}
 use Rattle.sheets.proofs.opened.Tie as tie
 
-first-requires : tie.Need-first-requires
-first-requires c κs = search needs
-
-is-marked-requires : tie.Need-is-marked-requires
-is-marked-requires c κs = search needs
-
 returns : tie.Need-returns
 returns c =
     let args = c .before .before .before .before .args in
     open-unmarked _ (args .sheet .now) _ (sym (c .before .is-marked .ensures) ∙ not-true _ (c .if1 .taken))
-
-sub-code-head : tie.Need-sub-code-head
-sub-code-head c = let long = marked-long _ _ (sym (c .before .is-marked .ensures) ∙ not-false _ (c .if1 .left)) in omega arith
-
-part-code-head-start : tie.Need-part-code-head-start
-part-code-head-start c = let long = marked-long _ _ (sym (c .before .is-marked .ensures) ∙ not-false _ (c .if1 .left)) in omega arith
-
-part-code-head-end : tie.Need-part-code-head-end
-part-code-head-end c = search needs
 
 code-head-requires : tie.Need-code-head-requires
 code-head-requires c κs =
@@ -52,9 +37,6 @@ checked-requires c κs =
     let marked = sym (is-marked .ensures) ∙ not-false _ (if1 .left) in
     open-known _ (args .sheet .now) (first .result) marked _ (head-behind _ _ (args .sheet .now) (code-head .ensures)) (c .if2 .left)
 
-first-requires-2 : tie.Need-first-requires-2
-first-requires-2 c κs = search needs
-
 returns-3 : tie.Need-returns-3
 returns-3 c =
     let is-marked = c .before .before .before .before .before .before .before .is-marked in
@@ -69,14 +51,14 @@ pub opened-spec : {M : Type 1} → statement M
 opened-spec =
     tie.close
     (tie.spec
-    first-requires
-    is-marked-requires
+    (λ c κs. search needs)
+    (λ c κs. search needs)
     returns
-    sub-code-head
-    part-code-head-start
-    part-code-head-end
+    (λ c. let long = marked-long _ _ (sym (c .before .is-marked .ensures) ∙ not-false _ (c .if1 .left)) in omega arith)
+    (λ c. let long = marked-long _ _ (sym (c .before .is-marked .ensures) ∙ not-false _ (c .if1 .left)) in omega arith)
+    (λ c. search needs)
     code-head-requires
     returns-2
     checked-requires
-    first-requires-2
+    (λ c κs. search needs)
     returns-3)

@@ -18,36 +18,15 @@ Inv-loop sheet edition state₀ state = Going (markOf edition) (edition .width) 
 abbrev μ-loop : tie.MeasureT-loop
 μ-loop sheet edition state₀ state = length sheet - state .offset
 
-first-edition-requires : tie.Need-first-edition-requires Inv-loop μ-loop
-first-edition-requires c κs = search needs
-
-opened-requires : tie.Need-opened-requires Inv-loop μ-loop
-opened-requires c κs = search needs
-
 loop-holds : tie.Need-loop-holds Inv-loop μ-loop
 loop-holds c =
     let args = c .before .before .before .args in
     going-start _ _ (args .sheet .now) (c .opened .ensures)
 
-sub-bytes : tie.Need-sub-bytes Inv-loop μ-loop
-sub-bytes c = search needs
-
-part-bytes-start : tie.Need-part-bytes-start Inv-loop μ-loop
-part-bytes-start c = search needs
-
-part-bytes-end : tie.Need-part-bytes-end Inv-loop μ-loop
-part-bytes-end c = search needs
-
 fits-requires : tie.Need-fits-requires Inv-loop μ-loop
 fits-requires c κs =
     let loop = c .before .before .before .loop in
     go-known (loop .inv)
-
-record-refusal-requires : tie.Need-record-refusal-requires Inv-loop μ-loop
-record-refusal-requires c κs = search needs
-
-refused-requires : tie.Need-refused-requires Inv-loop μ-loop
-refused-requires c κs = search needs
 
 returns : tie.Need-returns Inv-loop μ-loop
 returns c =
@@ -56,9 +35,6 @@ returns c =
     let if1 = c .before .before .before .before .before .before .before .if1 in
     let record-refusal = c .before .before .record-refusal in
     first-checks _ (first-edition .ensures) (answer-told (c .refused .result) _ _ (c .refused .ensures) (go-own (loop .inv) (if1 .taken) _ (record-refusal .ensures) (c .before .if3 .taken)))
-
-refused-requires-2 : tie.Need-refused-requires-2 Inv-loop μ-loop
-refused-requires-2 c κs = search needs
 
 returns-2 : tie.Need-returns-2 Inv-loop μ-loop
 returns-2 c =
@@ -93,9 +69,6 @@ loop-again c =
     let fits2 = c .before .before .before .fits2 in
     go-on (loop .inv) (if1 .taken) (fits2 .ensures) refl (c .before .if2 .left) (c .moved .ensures) .going-on
 
-refused-requires-3 : tie.Need-refused-requires-3 Inv-loop μ-loop
-refused-requires-3 c κs = search needs
-
 returns-3 : tie.Need-returns-3 Inv-loop μ-loop
 returns-3 c =
     let first-edition = c .before .before .before .before .before .before .before .first-edition in
@@ -107,12 +80,6 @@ checked-requires : tie.Need-checked-requires Inv-loop μ-loop
 checked-requires c κs =
     let loop = c .before .before .before .before .loop in
     go-known (loop .inv) .known (c .if4 .left)
-
-roots-requires : tie.Need-roots-requires Inv-loop μ-loop
-roots-requires c κs = search needs
-
-refused-requires-4 : tie.Need-refused-requires-4 Inv-loop μ-loop
-refused-requires-4 c κs = search needs
 
 returns-4 : tie.Need-returns-4 Inv-loop μ-loop
 returns-4 c =
@@ -141,25 +108,25 @@ sheet-check-spec =
     (tie.spec
     Inv-loop
     μ-loop
-    first-edition-requires
-    opened-requires
+    (λ c κs. search needs)
+    (λ c κs. search needs)
     loop-holds
-    sub-bytes
-    part-bytes-start
-    part-bytes-end
+    (λ c. search needs)
+    (λ c. search needs)
+    (λ c. search needs)
     fits-requires
-    record-refusal-requires
-    refused-requires
+    (λ c κs. search needs)
+    (λ c κs. search needs)
     returns
-    refused-requires-2
+    (λ c κs. search needs)
     returns-2
     moved-requires
     loop-less
     loop-again
-    refused-requires-3
+    (λ c κs. search needs)
     returns-3
     checked-requires
-    roots-requires
-    refused-requires-4
+    (λ c κs. search needs)
+    (λ c κs. search needs)
     returns-4
     returns-5)
