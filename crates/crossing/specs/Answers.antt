@@ -19,7 +19,7 @@ use Rattle.bisection.specs.Theorems.Table.{Move, exchanged, negatedAt, entriesB
 use Rattle.bisection.specs.Theorems.Crossing.Sound.{Allowed, a-swap, a-near, a-far, a-left, a-right, a-trade}
 use Rattle.bisection.specs.Theorems.Crossing.Rearranged.{exchanged-length, negatedAt-length}
 use Rattle.bisection.specs.Theorems.Neighbour.{isBlocked, tableCode, tablePlace, blocked-is-face, blocked-alone, face-is-blocked, across-unblocked}
-use Rattle.steps.specs.Steps.{turned-append}
+use Rattle.bisection.specs.Theorems.Entries.{turned-append}
 use Rattle.steps.specs.Parents.{unstepped-append}
 use Rattle.entries.specs.Passed.{checked}
 use Rattle.crossing.specs.declared.Crossed.{Crossed}
