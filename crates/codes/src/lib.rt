@@ -184,12 +184,13 @@ pub fn code_to_path(code: &[u8], root: &mut [u8], path: &mut [u8]) -> PathWritte
     if path.len() < depth {
         return path_refused(REFUSED_SHORT);
     }
-    walks::write_path(code, dim, depth, root, path);
-    PathWritten {
+    let answer = PathWritten {
         refusal: DONE,
         axes,
         depth,
-    }
+    };
+    walks::write_path(code, dim, depth, root, path);
+    answer
 }
 
 // The vertices of a code's cell in vertex order, d coordinates each, two bytes a coordinate, the low byte first.
