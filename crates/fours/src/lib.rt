@@ -38,7 +38,11 @@ fn entry(e: Four, n: usize) -> u8
     requires { ⌜ n < 4 ⌝ }
     ensures { λ r. ⌜ r ≡ getD (four e) n 0 ⌝ }
 {
-    pick(n == 0, e.first, pick(n == 1, e.second, pick(n == 2, e.third, e.fourth)))
+    pick(
+        n == 0,
+        e.first,
+        pick(n == 1, e.second, pick(n == 2, e.third, e.fourth)),
+    )
 }
 
 // The entries of a code.

@@ -13,44 +13,40 @@ record-parts-requires c κs =
 
 put-line-requires : tie.Need-put-line-requires
 put-line-requires c κs =
-    let pre = c .before .before .before .before .before .before .pre in
     let record-parts = c .before .before .before .record-parts in
-    let args = c .before .before .before .before .before .before .args in
-    let is = c .size .ensures ∙ first-record (pre .0) .dimension-is _ (record-parts .ensures) in
-    first-fits _ _ refl (args .sheet .now) _ (args .out .now) (pre .0) (pre .1) _ is
+    let start = c .before .before .before .before .before .before in
+    let is = c .size .ensures ∙ first-record (start .pre .0) .dimension-is _ (record-parts .ensures) in
+    first-fits _ _ refl (start .args .sheet .now) _ (start .args .out .now) (start .pre .0) (start .pre .1) _ is
 
 put-leaves-requires : tie.Need-put-leaves-requires
 put-leaves-requires c κs =
     let size = c .before .before .before .before .size in
-    let pre = c .before .before .before .before .before .before .before .before .before .before .pre in
     let record-parts = c .before .before .before .before .before .before .before .record-parts in
-    let args = c .before .before .before .before .before .before .before .before .before .before .args in
+    let start = c .before .before .before .before .before .before .before .before .before .before in
     let put-line = c .before .before .before .put-line in
-    let is = size .ensures ∙ first-record (pre .0) .dimension-is _ (record-parts .ensures) in
-    (pre .0, leaves-fit _ _ refl (args .sheet .now) _ (args .out .now) (pre .0) (pre .1) _ is (put-line .ensures))
+    let is = size .ensures ∙ first-record (start .pre .0) .dimension-is _ (record-parts .ensures) in
+    (start .pre .0, leaves-fit _ _ refl (start .args .sheet .now) _ (start .args .out .now) (start .pre .0) (start .pre .1) _ is (put-line .ensures))
 
 put-line-requires-2 : tie.Need-put-line-requires-2
 put-line-requires-2 c κs =
     let size = c .before .before .before .before .before .before .before .before .before .size in
-    let pre = c .before .before .before .before .before .before .before .before .before .before .before .before .before .before .before .pre in
     let record-parts = c .before .before .before .before .before .before .before .before .before .before .before .before .record-parts in
-    let args = c .before .before .before .before .before .before .before .before .before .before .before .before .before .before .before .args in
+    let start = c .before .before .before .before .before .before .before .before .before .before .before .before .before .before .before in
     let put-line = c .before .before .before .before .before .before .before .before .put-line in
     let put-leaves = c .before .before .before .before .put-leaves in
-    let is = size .ensures ∙ first-record (pre .0) .dimension-is _ (record-parts .ensures) in
-    last-fits _ _ refl (args .sheet .now) _ (args .out .now) (pre .0) (pre .1) _ is (put-line .ensures) (put-leaves .ensures)
+    let is = size .ensures ∙ first-record (start .pre .0) .dimension-is _ (record-parts .ensures) in
+    last-fits _ _ refl (start .args .sheet .now) _ (start .args .out .now) (start .pre .0) (start .pre .1) _ is (put-line .ensures) (put-leaves .ensures)
 
 returns : tie.Need-returns
 returns c =
     let size = c .before .before .before .before .before .before .before .before .before .before .before .before .size in
-    let pre = c .before .before .before .before .before .before .before .before .before .before .before .before .before .before .before .before .before .before .pre in
     let record-parts = c .before .before .before .before .before .before .before .before .before .before .before .before .before .before .before .record-parts in
-    let args = c .before .before .before .before .before .before .before .before .before .before .before .before .before .before .before .before .before .before .args in
+    let start = c .before .before .before .before .before .before .before .before .before .before .before .before .before .before .before .before .before .before in
     let put-line = c .before .before .before .before .before .before .before .before .before .before .before .put-line in
     let put-leaves = c .before .before .before .before .before .before .before .put-leaves in
     let put-line2 = c .before .before .put-line2 in
-    let is = size .ensures ∙ first-record (pre .0) .dimension-is _ (record-parts .ensures) in
-    good-puts _ _ refl (args .sheet .now) _ (args .out .now) (pre .0) (pre .1) _ is (put-line .ensures) (put-leaves .ensures) (put-line2 .ensures)
+    let is = size .ensures ∙ first-record (start .pre .0) .dimension-is _ (record-parts .ensures) in
+    good-puts _ _ refl (start .args .sheet .now) _ (start .args .out .now) (start .pre .0) (start .pre .1) _ is (put-line .ensures) (put-leaves .ensures) (put-line2 .ensures)
 
 pub put-good-spec : {M : Type 1} → statement M
 put-good-spec =

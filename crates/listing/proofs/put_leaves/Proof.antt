@@ -16,9 +16,8 @@ abbrev μ-loop : tie.MeasureT-loop
 
 loop-holds : tie.Need-loop-holds Inv-loop μ-loop
 loop-holds c =
-    let args = c .before .before .args in
-    let pre = c .before .before .pre in
-    on-start _ _ refl (args .sheet .now) (args .records) (args .from) (args .out .now) (pre .0) (pre .1)
+    let start = c .before .before in
+    on-start _ _ refl (start .args .sheet .now) (start .args .records) (start .args .from) (start .args .out .now) (start .pre .0) (start .pre .1)
 
 record-parts-requires : tie.Need-record-parts-requires Inv-loop μ-loop
 record-parts-requires c κs =

@@ -9,30 +9,26 @@ use Rattle.sheets.proofs.record_parts.Tie as tie
 
 code-head-requires : tie.Need-code-head-requires
 code-head-requires c κs =
-    let args = c .before .before .args in
-    let pre = c .before .before .pre in
-    rw (part-marked (args .edition .first) (args .edition .second) (args .bytes .now)) (marked-two _ _ (parts-marked _ _ _ (pre)))
+    let start = c .before .before in
+    rw (part-marked (start .args .edition .first) (start .args .edition .second) (start .args .bytes .now)) (marked-two _ _ (parts-marked _ _ _ (start .pre)))
 
 add-t10 : tie.Need-add-t10
 add-t10 c =
-    let args = c .before .before .before .before .args in
-    let pre = c .before .before .before .before .pre in
-    let head = head-behind (args .edition .first) (args .edition .second) (args .bytes .now) (c .before .code-head .ensures) in
-    omega (arith, c .samples-length .ensures .0, parts-whole _ _ _ (pre) _ head, parts-inside _ _ _ (pre))
+    let start = c .before .before .before .before in
+    let head = head-behind (start .args .edition .first) (start .args .edition .second) (start .args .bytes .now) (c .before .code-head .ensures) in
+    omega (arith, c .samples-length .ensures .0, parts-whole _ _ _ (start .pre) _ head, parts-inside _ _ _ (start .pre))
 
 add-t11 : tie.Need-add-t11
 add-t11 c =
-    let args = c .before .before .before .before .args in
-    let pre = c .before .before .before .before .pre in
-    let head = head-behind (args .edition .first) (args .edition .second) (args .bytes .now) (c .before .code-head .ensures) in
-    omega (arith, c .samples-length .ensures .0, parts-whole _ _ _ (pre) _ head, parts-inside _ _ _ (pre))
+    let start = c .before .before .before .before in
+    let head = head-behind (start .args .edition .first) (start .args .edition .second) (start .args .bytes .now) (c .before .code-head .ensures) in
+    omega (arith, c .samples-length .ensures .0, parts-whole _ _ _ (start .pre) _ head, parts-inside _ _ _ (start .pre))
 
 returns : tie.Need-returns
 returns c =
-    let args = c .before .before .before .before .args in
-    let pre = c .before .before .before .before .pre in
-    let head = head-behind (args .edition .first) (args .edition .second) (args .bytes .now) (c .before .code-head .ensures) in
-    parts-are _ _ _ (pre) _ head _ (ap (λ (n : ℕ). 2 + (c .before .code-head .result .length + n)) (c .samples-length .ensures .0))
+    let start = c .before .before .before .before in
+    let head = head-behind (start .args .edition .first) (start .args .edition .second) (start .args .bytes .now) (c .before .code-head .ensures) in
+    parts-are _ _ _ (start .pre) _ head _ (ap (λ (n : ℕ). 2 + (c .before .code-head .result .length + n)) (c .samples-length .ensures .0))
 
 pub record-parts-spec : {M : Type 1} → statement M
 record-parts-spec =

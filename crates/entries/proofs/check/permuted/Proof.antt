@@ -19,16 +19,14 @@ abbrev μ-loop : tie.MeasureT-loop
 
 add-mark-of : tie.Need-add-mark-of Inv-loop μ-loop
 add-mark-of c =
-    let args = c .before .before .before .before .args in
-    let pre = c .before .before .before .before .pre in
-    omega (arith, c .place-in .ensures, place-within (c .before .before .loop .i) (args .d) (pre .0), pre .2)
+    let start = c .before .before .before .before in
+    omega (arith, c .place-in .ensures, place-within (c .before .before .loop .i) (start .args .d) (start .pre .0), start .pre .2)
 
 shared-slice-read-mark-of : tie.Need-shared-slice-read-mark-of Inv-loop μ-loop
 shared-slice-read-mark-of c =
-    let args = c .before .before .before .before .before .args in
-    let pre = c .before .before .before .before .before .pre in
+    let start = c .before .before .before .before .before in
     let loop = c .before .before .before .loop in
-    omega (arith, c .before .place-in .ensures, place-within (loop .i) (args .d) (pre .0), pre .2)
+    omega (arith, c .before .place-in .ensures, place-within (loop .i) (start .args .d) (start .pre .0), start .pre .2)
 
 loop-again : tie.Need-loop-again Inv-loop μ-loop
 loop-again c =
@@ -45,9 +43,8 @@ sub-result c = rw (shifted-bit (c .before .before .before .args .d) (omega (arit
 
 returns : tie.Need-returns Inv-loop μ-loop
 returns c =
-    let args = c .before .before .before .args in
-    let pre = c .before .before .before .pre in
-    permuted-at (args .s .now) (args .at) (args .d) (c .before .loop .i) (c .before .loop .seen) (pre .2) (pre .1) (omega (arith, c .loop-test .left, pre .1))
+    let start = c .before .before .before in
+    permuted-at (start .args .s .now) (start .args .at) (start .args .d) (c .before .loop .i) (c .before .loop .seen) (start .pre .2) (start .pre .1) (omega (arith, c .loop-test .left, start .pre .1))
     (c .before .loop .inv)
 
 pub permuted-spec : {M : Type 1} → statement M

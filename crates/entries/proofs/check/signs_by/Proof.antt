@@ -17,34 +17,30 @@ abbrev μ-loop : tie.MeasureT-loop
 
 add-same-sign : tie.Need-add-same-sign Inv-loop μ-loop
 add-same-sign c =
-    let args = c .before .before .before .before .args in
-    let pre = c .before .before .before .before .pre in
-    omega (arith, c .place-in .ensures, place-within (c .before .before .loop .i) (args .k) (pre .0), pre .1)
+    let start = c .before .before .before .before in
+    omega (arith, c .place-in .ensures, place-within (c .before .before .loop .i) (start .args .k) (start .pre .0), start .pre .1)
 
 shared-slice-read-same-sign : tie.Need-shared-slice-read-same-sign Inv-loop μ-loop
 shared-slice-read-same-sign c =
-    let args = c .before .before .before .before .before .args in
-    let pre = c .before .before .before .before .before .pre in
+    let start = c .before .before .before .before .before in
     let loop = c .before .before .before .loop in
-    omega (arith, c .before .place-in .ensures, place-within (loop .i) (args .k) (pre .0), pre .2)
+    omega (arith, c .before .place-in .ensures, place-within (loop .i) (start .args .k) (start .pre .0), start .pre .2)
 
 same-sign-requires : tie.Need-same-sign-requires Inv-loop μ-loop
 same-sign-requires c κs =
-    let args = c .before .before .before .before .before .args in
-    let pre = c .before .before .before .before .before .pre in
+    let start = c .before .before .before .before .before in
     let loop = c .before .before .before .loop in
-    let l : c .before .place-in .result < args .k = omega (arith, c .before .place-in .ensures, place-within (loop .i) (args .k) (pre .0)) in
-    (pre .3 .low (c .before .place-in .result) l, pre .3 .high (c .before .place-in .result) l)
+    let l : c .before .place-in .result < start .args .k = omega (arith, c .before .place-in .ensures, place-within (loop .i) (start .args .k) (start .pre .0)) in
+    (start .pre .3 .low (c .before .place-in .result) l, start .pre .3 .high (c .before .place-in .result) l)
 
 returns : tie.Need-returns Inv-loop μ-loop
 returns c =
-    let args = c .before .before .before .before .before .before .before .args in
-    let pre = c .before .before .before .before .before .before .before .pre in
+    let start = c .before .before .before .before .before .before .before in
     let loop = c .before .before .before .before .before .loop in
     let place-in = c .before .before .before .place-in in
-    let code = args .code .now in
-    up-to-fail (drop 2 code) (args .own) (args .k) (loop .i) (pre .0)
-    (ap (signTest (drop 2 code) (args .own)) (sym (place-in .ensures)) ∙ rw (← at-place code 2 (place-in .result))
+    let code = start .args .code .now in
+    up-to-fail (drop 2 code) (start .args .own) (start .args .k) (loop .i) (start .pre .0)
+    (ap (signTest (drop 2 code) (start .args .own)) (sym (place-in .ensures)) ∙ rw (← at-place code 2 (place-in .result))
     (sym (c .before .same-sign .ensures) ∙ not-true _ (c .if1 .taken)))
 
 loop-again : tie.Need-loop-again Inv-loop μ-loop

@@ -11,9 +11,8 @@ use Rattle.listing.proofs.text.put_decimal.Tie as tie
 put-requires : tie.Need-put-requires
 put-requires c κs =
     let decimal = c .before .before .decimal in
-    let args = c .before .before .before .before .before .args in
-    let pre = c .before .before .before .before .before .pre in
-    rw (decimal .ensures .1 .1 ∙ decimal-is (args .n) (decimal .result) (decimal .ensures .1 .0)) (pre)
+    let start = c .before .before .before .before .before in
+    rw (decimal .ensures .1 .1 ∙ decimal-is (start .args .n) (decimal .result) (decimal .ensures .1 .0)) (start .pre)
 
 returns : tie.Need-returns
 returns c =
