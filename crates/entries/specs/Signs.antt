@@ -139,3 +139,8 @@ module _ (e : ℕ) (h : e < 256) (r : ℤ) (is : r ≡ signedOf e) where
 
   pub negation-byte : 1 ≤ axis e → (b : ℕ) → b ≡ byteOf (toZ w8 (ofZ w8 (pos 0 -ℤ toZ w8 (ofZ w8 r)))) → b ≡ negated e
   negation-byte l b q = q ∙ rw turned-sign (byte-negated e h l)
+
+-- a minus taken off leaves the axis
+pub negated-minus : (e : ℕ) → 128 ≤ e → e - 128 ≡ negated e
+unfolding negated minus
+negated-minus e h = rw (le-leb 128 e h) refl

@@ -55,6 +55,9 @@ pub fn negate(e: u8) -> u8
     requires { ⌜ 1 ≤ axis e ⌝ }
     ensures { λ r. ⌜ r ≡ negated e ⌝ }
 {
+    if 128 <= e {
+        return e - 128;
+    }
     let x = signed_of(e);
     byte_of(-x)
 }

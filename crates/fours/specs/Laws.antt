@@ -8,12 +8,11 @@ use native.Mathlib.Nat.{zero-add}
 use lib.Dec.{T, ltb, eqb}
 use lib.ListN.{length, getD, take, drop, length-append, length-drop, List·getD-append}
 use lib.Seq.{paste, take-at}
-use borrow.Author.Tests.{eq-eqb, eqb-true}
+use borrow.Author.Tests.{eq-eqb, eqb-true, lt-ltb, le-ltb}
 use Rattle.bisection.specs.Codes.{axis, minus, negated, turned, high}
 use Rattle.bisection.specs.Refusals.{sameSign}
 use Rattle.bisection.specs.Theorems.Entries.{Signed, unturned, turned-append, unturned-append, signed-turned, signed-unturned}
 use Rattle.bisection.specs.Theorems.Passing.{unstepped}
-use Rattle.entries.specs.Walks.{placeIn}
 use Rattle.fours.specs.declared.Four.{Four}
 use Rattle.fours.specs.Fours.{four, noEntries, Holds, SameFour, BackIs}
 
@@ -58,8 +57,14 @@ unstep-is e t n own true s q = record { step = ap (λ (b : Bool). cond b 0 1) s;
 unstep-is e t n own false s q = record { step = ap (λ (b : Bool). cond b 0 1) s; entries = q }
 
 -- the entries of a code
+pub entry-none : (d n x : ℕ) → d ≤ n → 0 ≡ cond (ltb n d) x 0
+entry-none d n x h = rw (le-ltb n d h) refl
+
+pub entry-some : (d n x : ℕ) → n < d → x ≡ cond (ltb n d) x 0
+entry-some d n x h = rw (lt-ltb n d h) refl
+
 pub entries-are : (code : List ℕ) (d : ℕ) → 2 ≤ d → d ≤ 4 → 2 + d ≤ length code
-    → four (fourOf (getD code 2 0) (getD code 3 0) (cond (ltb 2 d) (getD code (2 + placeIn 2 d) 0) 0) (cond (ltb 3 d) (getD code (2 + placeIn 3 d) 0) 0)) ≡ paste noEntries 0 (drop 2 code) d
+    → four (fourOf (getD code 2 0) (getD code 3 0) (cond (ltb 2 d) (getD code 4 0) 0) (cond (ltb 3 d) (getD code 5 0) 0)) ≡ paste noEntries 0 (drop 2 code) d
 entries-are (x ∷ y ∷ a ∷ b ∷ code) (suc (suc zero)) l h r = refl
 entries-are (x ∷ y ∷ a ∷ b ∷ c ∷ code) (suc (suc (suc zero))) l h r = refl
 entries-are (x ∷ y ∷ a ∷ b ∷ c ∷ e ∷ code) (suc (suc (suc (suc zero)))) l h r = refl

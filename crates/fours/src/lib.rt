@@ -3,6 +3,7 @@
 ghost use mathlib.Core.Path.{_≡_};
 ghost use mathlib.Core.Bool.{cond};
 ghost use Prim.Native.Nat.{suc, _+_, _≤_, _<_};
+ghost use lib.Dec.{ltb};
 ghost use lib.ListN.{length, getD, drop};
 ghost use lib.Seq.{paste};
 ghost use Rattle.bisection.specs.Codes.{axis, turned};
@@ -45,18 +46,27 @@ fn entry(e: Four, n: usize) -> u8
     )
 }
 
+// The entry of a code at a place, 0 where its dimension has none. A branch, since the dimension is foreseen.
+fn entry_in(code: &[u8], n: usize, d: usize) -> u8
+    requires { ⌜ (n < 4) × (2 + d ≤ length (now code)) ⌝ }
+    ensures { λ r. ⌜ r ≡ cond (ltb n d) (getD (now (code .entry)) (2 + n) 0) 0 ⌝ }
+{
+    if d <= n {
+        return 0;
+    }
+    code[2 + n]
+}
+
 // The entries of a code.
 pub fn entries_of(code: &[u8], d: usize) -> Four
     requires { ⌜ (2 ≤ d) × (d ≤ 4) × (2 + d ≤ length (now code)) ⌝ }
     ensures { λ r. ⌜ four r ≡ paste noEntries 0 (drop 2 (now (code .entry))) d ⌝ }
 {
-    let third = code[2 + check::place_in(2, d)];
-    let fourth = code[2 + check::place_in(3, d)];
     Four {
         first: code[2],
         second: code[3],
-        third: pick(2 < d, third, 0),
-        fourth: pick(3 < d, fourth, 0),
+        third: entry_in(code, 2, d),
+        fourth: entry_in(code, 3, d),
     }
 }
 

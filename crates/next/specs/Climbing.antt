@@ -2,14 +2,14 @@
 use mathlib.Core.Path.{_≡_, refl, sym, ap, _∙_, subst}
 use mathlib.Core.Bool.{Bool, true, false}
 use mathlib.Core.List.{List, [], _∷_}
-use Prim.Native.Nat.{ℕ, zero, suc, _+_, _-_, _/_, _%_, _≤_, _<_}
+use Prim.Native.Nat.{ℕ, zero, suc, _+_, _-_, _*_, _/_, _%_, _≤_, _<_}
 use native.Mathlib.Omega.{arith}
 use lib.ListN.{length, getD}
 use Rattle.dimension.specs.Sizes.{splitPlace, boxDepth}
-use Rattle.dimension.specs.Laws.{split-range}
+use Rattle.dimension.specs.Laws.{split-range, split-is}
 use Rattle.bisection.specs.Codes.{axis, turned, step, stepped}
 use Rattle.bisection.specs.Theorems.Entries.{unturned, unturned-turned}
-use Rattle.steps.specs.Above.{placeAbove, go-place}
+use Rattle.steps.specs.Above.{placeAbove, boxesAbove, BoxesReady, above-ready, go-place, go-boxes}
 use Rattle.fours.specs.declared.Four.{Four}
 use Rattle.fours.specs.Fours.{four, Holds}
 use Rattle.fours.specs.Laws.{held-axis, held-few, held-unturned}
@@ -68,17 +68,18 @@ pub record Climbing (d : ℕ) (e : Four) (n t : ℕ) (root : List ℕ) (p : List
   pub same : stripped p ≡ stripped at
 
 -- what the loop keeps
-pub record Loop (d : ℕ) (e₀ : Four) (n₀ t₀ : ℕ) (e : Four) (n t k : ℕ) : Type 0 where
+pub record Loop (d : ℕ) (e₀ : Four) (n₀ t₀ : ℕ) (e : Four) (n t k boxes : ℕ) : Type 0 where
   pub place : k ≡ splitPlace d t
+  pub count : boxes ≡ boxDepth d t
   pub here : ClimbReady d e n t
   pub way : (root : List ℕ) (p : List Bool) → Cell d e₀ n₀ t₀ root p → Climbing d e n t root p
 
-pub loop-start : {d : ℕ} {e : Four} {n t : ℕ} (k : ℕ) → ClimbReady d e n t → k ≡ splitPlace d t → Loop d e n t e n t k
-loop-start k r h = record { place = h; here = r; way = λ root p c. record { at = p; cell = c; same = refl } }
+pub loop-start : {d : ℕ} {e : Four} {n t : ℕ} (boxes : ℕ) → ClimbReady d e n t → boxes ≡ boxDepth d t → Loop d e n t e n t (d - (t - d * boxes)) boxes
+loop-start {d} {t = t} boxes r h = record { place = split-is d t d boxes refl h; count = h; here = r; way = λ root p c. record { at = p; cell = c; same = refl } }
 
-module _ {d : ℕ} {e₀ : Four} {n₀ t₀ : ℕ} {e : Four} {n t k : ℕ} (l : Loop d e₀ n₀ t₀ e n t k) where
-  pub loop-end : (n % 2 ≡ 1 → ⊥) → UpIs d e₀ n₀ t₀ (record { entries = e; path = n; depth = t })
-  loop-end even = record { up = λ root p c. let w = l .way root p c in subst (Cell d e n t root) (sym (w .same ∙ none-last (w .at) (λ h. even (ap (λ (m : ℕ). m % 2) (w .cell .path-is) ∙ h)))) (w .cell) }
+module _ {d : ℕ} {e₀ : Four} {n₀ t₀ : ℕ} {e : Four} {n t k boxes : ℕ} (l : Loop d e₀ n₀ t₀ e n t k boxes) where
+  pub loop-end : (n % 2 ≡ 1 → ⊥) → UpIs d e₀ n₀ t₀ (record { entries = e; path = n; depth = t; place = k; boxes = boxes })
+  loop-end even = record { place-is = l .place; boxes-are = l .count; up = λ root p c. let w = l .way root p c in subst (Cell d e n t root) (sym (w .same ∙ none-last (w .at) (λ h. even (ap (λ (m : ℕ). m % 2) (w .cell .path-is) ∙ h)))) (w .cell) }
 
   pub loop-small : k ≤ 8
   loop-small = omega (arith, l .place, split-range d t (rooted-some (l .here .cell .rooted)), held-few (l .here .cell .held))
@@ -87,9 +88,12 @@ module _ {d : ℕ} {e₀ : Four} {n₀ t₀ : ℕ} {e : Four} {n t k : ℕ} (l :
     pub loop-some : 0 < t
     loop-some = up-some (l .here .cell) odd
 
+    pub loop-boxes : BoxesReady boxes k d
+    loop-boxes = above-ready (rooted-some (l .here .cell .rooted)) loop-some (l .place) (l .count)
+
     module _ (j : ℕ) (j-is : j ≡ placeAbove k d) where
       j-at : j ≡ splitPlace d (t - 1)
-      j-at = go-place {boxes = boxDepth d t} (rooted-some (l .here .cell .rooted)) loop-some (l .place) refl j-is
+      j-at = go-place {boxes = boxes} (rooted-some (l .here .cell .rooted)) loop-some (l .place) (l .count) j-is
 
       pub loop-place : 1 ≤ j
       loop-place = up-place (l .here .cell) odd j j-at
@@ -97,9 +101,10 @@ module _ {d : ℕ} {e₀ : Four} {n₀ t₀ : ℕ} {e : Four} {n t k : ℕ} (l :
       pub loop-turn : (j - 1 < 4) × (1 ≤ axis (getD (four e) (j - 1) 0))
       loop-turn = up-turn (l .here .cell) odd j j-at
 
-      pub loop-more : (b : Four) → four b ≡ unturned (j - 1) (four e) → Loop d e₀ n₀ t₀ b (n / 2) (t - 1) j
-      loop-more b q = record {
+      pub loop-more : (m : ℕ) → m ≡ boxesAbove boxes k d → (b : Four) → four b ≡ unturned (j - 1) (four e) → Loop d e₀ n₀ t₀ b (n / 2) (t - 1) j m
+      loop-more m v b q = record {
         place = j-at;
+        count = go-boxes (rooted-some (l .here .cell .rooted)) loop-some (l .place) (l .count) v;
         here = record { root = l .here .root; path = rest (l .here .cell) odd; cell = up-cell (l .here .cell) odd j j-at b q };
         way = λ root p c. let w = l .way root p c in record { at = rest (w .cell) odd; cell = up-cell (w .cell) odd j j-at b q; same = w .same ∙ up-stripped (w .cell) odd j j-at };
       }

@@ -10,6 +10,7 @@ use Rattle.dimension.specs.Sizes.{splitPlace, boxDepth, greatestDepth, halvings
 use Rattle.dimension.specs.Laws.{split-range, box-under, depth-small}
 use Rattle.bisection.specs.Codes.{axis, turned, step, stepped, orthant}
 use Rattle.bisection.specs.Theorems.Passing.{orthant-fits}
+use Rattle.steps.specs.Above.{placeAbove, boxesAbove, BoxesReady, above-ready, go-place, go-boxes}
 use Rattle.fours.specs.declared.Four.{Four}
 use Rattle.fours.specs.Fours.{four, Holds, OwnIs}
 use Rattle.fours.specs.Laws.{held-axis, held-few, held-turned}
@@ -149,14 +150,29 @@ module _ {d : ℕ} {s : Next} {D : ℕ} (y : AfterReady d s D) where
         pub after-number : u .path + 1 < 2 ^ 64
         after-number = on-number (y .stands) (y .n) D (y .depth-is) (y .deep) u mine some
 
-        module _ (k : ℕ) (k-is : k ≡ splitPlace d (u .depth - 1)) where
+        d0 : 0 < d
+        d0 = rooted-some (mine .rooted)
+
+        pub after-small : u .place ≤ 8
+        after-small = omega (arith, up .place-is, split-range d (u .depth) d0, held-few (mine .held))
+
+        pub after-boxes : BoxesReady (u .boxes) (u .place) d
+        after-boxes = above-ready d0 (omega (arith, some)) (up .place-is) (up .boxes-are)
+
+        module _ (k : ℕ) (k-above : k ≡ placeAbove (u .place) d) where
+          k-is : k ≡ splitPlace d (u .depth - 1)
+          k-is = go-place {boxes = u .boxes} d0 (omega (arith, some)) (up .place-is) (up .boxes-are) k-above
+
           pub after-place : 1 ≤ k
           after-place = on-place (y .stands) (y .n) D (y .depth-is) (y .deep) u mine some k k-is
 
           pub after-turn : (k - 1 < 4) × (1 ≤ axis (u .entries .first))
           after-turn = on-turn (y .stands) (y .n) D (y .depth-is) (y .deep) u mine some k k-is
 
-          module _ (e : Four) (e-is : four e ≡ turned (suc (k - 1)) (four (u .entries))) (own : ℕ) (own-is : OwnIs e own) (l : ℕ) (l-is : l ≡ boxDepth d (u .depth - 1)) where
+          module _ (e : Four) (e-is : four e ≡ turned (suc (k - 1)) (four (u .entries))) (own : ℕ) (own-is : OwnIs e own) (l : ℕ) (l-above : l ≡ boxesAbove (u .boxes) (u .place) d) where
+            l-is : l ≡ boxDepth d (u .depth - 1)
+            l-is = go-boxes d0 (omega (arith, some)) (up .place-is) (up .boxes-are) l-above
+
             pub after-fill : (l ≤ halvings) × (own < 16)
             after-fill = (rw l-is (on-boxes (y .stands) (y .n) D (y .depth-is) (y .deep) u mine some), on-own (y .stands) (y .n) D (y .depth-is) (y .deep) u mine some k k-is e e-is own own-is)
 

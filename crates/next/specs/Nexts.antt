@@ -5,7 +5,7 @@ use mathlib.Core.List.{List, [], _∷_}
 use mathlib.Core.Logic.{_≢_}
 use Prim.Native.Nat.{ℕ, _+_, _≤_, _<_}
 use lib.ListN.{length, getD}
-use Rattle.dimension.specs.Sizes.{greatestDepth, halvings}
+use Rattle.dimension.specs.Sizes.{greatestDepth, halvings, splitPlace, boxDepth}
 use Rattle.bisection.specs.Roots.{roots}
 use Rattle.bisection.specs.Codes.{IsCodeOf}
 use Rattle.codes.specs.Fronts.{frontLength, frontCode}
@@ -55,6 +55,8 @@ pub record ClimbReady (d : ℕ) (e : Four) (n t : ℕ) : Type 0 where
 
 -- the cell above without the 1s at the path's end
 pub record UpIs (d : ℕ) (e : Four) (n t : ℕ) (r : Up) : Type 0 where
+  pub place-is : r .place ≡ splitPlace d (r .depth)
+  pub boxes-are : r .boxes ≡ boxDepth d (r .depth)
   pub up : (root : List ℕ) (p : List Bool) → Cell d e n t root p → Cell d (r .entries) (r .path) (r .depth) root (stripped p)
 
 pub record AfterReady (d : ℕ) (s : Next) (D : ℕ) : Type 0 where

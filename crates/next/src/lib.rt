@@ -83,14 +83,16 @@ pub fn matches(next: Next, dim: Dim, bytes: &[u8]) -> Match
     Match { length, depth }
 }
 
-// A cell on the way up: its entries, its path as a number and its depth.
+// A cell on the way up: its entries, its path as a number and its depth; its split place, and how many boxes it has.
 struct Up {
     entries: Four,
     path: u64,
     depth: usize,
+    place: usize,
+    boxes: usize,
 }
 
-// Drops the 1s at a path's end: up to the first cell whose last step is no 1.
+// Drops the 1s at a path's end: up to the first cell whose last step is no 1. Boxes are counted once, and then step by step.
 fn climb(from: Four, path: u64, depth: usize, dim: Dim) -> Up
     requires { ⌜ ClimbReady (axesOf dim) from path depth ⌝ }
     ensures { λ r. ⌜ UpIs (axesOf dim) from path depth r ⌝ }
@@ -102,8 +104,10 @@ fn climb(from: Four, path: u64, depth: usize, dim: Dim) -> Up
     let mut fourth = from.fourth;
     let mut left = path;
     let mut t = depth;
-    let mut k = dim.split_place(depth);
+    let mut boxes = dim.box_depth(depth);
+    let mut k = axes - (depth - axes * boxes);
     while left % 2 == 1 {
+        boxes = steps::boxes_above(boxes, k, axes);
         k = steps::place_above(k, axes);
         let here = Four {
             first,
@@ -129,6 +133,8 @@ fn climb(from: Four, path: u64, depth: usize, dim: Dim) -> Up
         entries,
         path: left,
         depth: t,
+        place: k,
+        boxes,
     }
 }
 
@@ -158,9 +164,11 @@ pub fn after(next: Next, dim: Dim, depth: usize) -> Onward
     if up.depth == 0 {
         return Onward { more: false, next };
     }
-    let above = up.depth - 1;
-    let entries = fours::turned_on(up.entries, dim.split_place(above) - 1);
-    let boxes = filled(next.boxes, dim.box_depth(above), fours::own_of(entries));
+    let axes = dim.axes();
+    let place = steps::place_above(up.place, axes);
+    let entries = fours::turned_on(up.entries, place - 1);
+    let above = steps::boxes_above(up.boxes, up.place, axes);
+    let boxes = filled(next.boxes, above, fours::own_of(entries));
     Onward {
         more: true,
         next: Next {

@@ -1,14 +1,32 @@
 -- `negate` meets its contract: negating the number negates the entry.
-use borrow.Author.Needs.{needs}
 use native.Mathlib.Omega.{arith}
-use Rattle.entries.specs.Signs.{negation-fits, negation-again, negation-byte}
+use Rattle.entries.specs.Signs.{negated-minus, negation-fits, negation-again, negation-byte}
+use borrow.Author.Needs.{needs}
 use Rattle.entries.proofs.negate.Statement.{statement}
 use Rattle.entries.proofs.negate.Tie as tie
 
+returns : tie.Need-returns
+returns c = negated-minus (c .before .args .e) (c .if1 .taken)
+
+signed-of-requires : tie.Need-signed-of-requires
+signed-of-requires c κs = search needs
+
+sub-byte-of : tie.Need-sub-byte-of
+sub-byte-of c =
+    let args = c .before .before .args in
+    negation-fits (args .e) (omega arith) _ (c .signed-of .ensures)
+
+byte-of-requires : tie.Need-byte-of-requires
+byte-of-requires c κs =
+    let args = c .before .before .args in
+    negation-again (args .e) (omega arith) _ (c .signed-of .ensures)
+
+returns-2 : tie.Need-returns-2
+returns-2 c =
+    let args = c .before .before .before .args in
+    let pre = c .before .before .before .pre in
+    negation-byte (args .e) (omega arith) _ (c .before .signed-of .ensures) (pre) _ (c .byte-of .ensures)
+
 pub negate-spec : {M : Type 1} → statement M
-negate-spec = tie.close
-    (tie.spec
-    (λ c κs. search needs)
-    (λ c. negation-fits (c .before .args .e) (omega arith) _ (c .signed-of .ensures))
-    (λ c κs. negation-again (c .before .args .e) (omega arith) _ (c .signed-of .ensures))
-    (λ c. negation-byte (c .before .before .args .e) (omega arith) _ (c .before .signed-of .ensures) (c .before .before .pre) _ (c .byte-of .ensures)))
+negate-spec =
+    tie.close (tie.spec returns signed-of-requires sub-byte-of byte-of-requires returns-2)

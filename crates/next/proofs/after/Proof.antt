@@ -1,7 +1,6 @@
 -- `after` meets its contract.
-use mathlib.Core.Path.{sym, ap, _∙_, subst}
 use native.Mathlib.Omega.{arith}
-use Rattle.next.specs.Going.{after-above, after-short, after-path, after-climb, after-over, after-number, after-place, after-turn, after-fill, after-on}
+use Rattle.next.specs.Going.{after-above, after-short, after-path, after-climb, after-over, after-number, after-small, after-boxes, after-place, after-turn, after-fill, after-on}
 use borrow.Author.Needs.{needs}
 use Rattle.next.proofs.after.Statement.{statement}
 use Rattle.next.proofs.after.Tie as tie
@@ -29,11 +28,15 @@ returns c =
     let climb = c .before .before .climb in
     after-over (pre) _ (power .ensures) _ (climb .ensures) (c .if1 .taken) _
 
-sub-above : tie.Need-sub-above
-sub-above c = search needs
+axes-requires : tie.Need-axes-requires
+axes-requires c κs = search needs
 
-split-place-requires : tie.Need-split-place-requires
-split-place-requires c κs = search needs
+place-above-requires : tie.Need-place-above-requires
+place-above-requires c κs =
+    let pre = c .before .before .before .before .before .before .before .pre in
+    let power = c .before .before .before .before .before .power in
+    let climb = c .before .before .before .climb in
+    after-small (pre) _ (power .ensures) _ (climb .ensures) (c .before .if1 .left)
 
 sub-turned-on : tie.Need-sub-turned-on
 sub-turned-on c =
@@ -41,7 +44,7 @@ sub-turned-on c =
     let power = c .before .before .before .before .before .before .power in
     let climb = c .before .before .before .before .climb in
     let if1 = c .before .before .if1 in
-    after-place (pre) _ (power .ensures) _ (climb .ensures) (if1 .left) _ (c .split-place .ensures)
+    after-place (pre) _ (power .ensures) _ (climb .ensures) (if1 .left) _ (rw (c .before .axes .ensures) at (c .place-above .ensures))
 
 turned-on-requires : tie.Need-turned-on-requires
 turned-on-requires c κs =
@@ -49,10 +52,16 @@ turned-on-requires c κs =
     let power = c .before .before .before .before .before .before .power in
     let climb = c .before .before .before .before .climb in
     let if1 = c .before .before .if1 in
-    after-turn (pre) _ (power .ensures) _ (climb .ensures) (if1 .left) _ (c .split-place .ensures)
+    after-turn (pre) _ (power .ensures) _ (climb .ensures) (if1 .left) _ (rw (c .before .axes .ensures) at (c .place-above .ensures))
 
-box-depth-requires : tie.Need-box-depth-requires
-box-depth-requires c κs = search needs
+boxes-above-requires : tie.Need-boxes-above-requires
+boxes-above-requires c κs =
+    let axes = c .before .before .axes in
+    let pre = c .before .before .before .before .before .before .before .before .before .pre in
+    let power = c .before .before .before .before .before .before .before .power in
+    let climb = c .before .before .before .before .before .climb in
+    let if1 = c .before .before .before .if1 in
+    rw (axes .ensures) (after-boxes (pre) _ (power .ensures) _ (climb .ensures) (if1 .left))
 
 own-of-requires : tie.Need-own-of-requires
 own-of-requires c κs = search needs
@@ -63,12 +72,13 @@ filled-requires c κs =
     let power = c .before .before .before .before .before .before .before .before .before .power in
     let climb = c .before .before .before .before .before .before .before .climb in
     let if1 = c .before .before .before .before .before .if1 in
-    let split-place = c .before .before .before .split-place in
+    let axes = c .before .before .before .before .axes in
+    let place-above = c .before .before .before .place-above in
     let turned-on = c .before .before .turned-on in
-    after-fill (pre) _ (power .ensures) _ (climb .ensures) (if1 .left) _ (split-place .ensures) _ (turned-on .ensures) _ (c .own-of .ensures) _ (c .before .box-depth .ensures)
+    after-fill (pre) _ (power .ensures) _ (climb .ensures) (if1 .left) _ (rw (axes .ensures) at (place-above .ensures)) _ (turned-on .ensures) _ (c .own-of .ensures) _ (rw (axes .ensures) at (c .before .boxes-above .ensures))
 
-add-t9 : tie.Need-add-t9
-add-t9 c =
+add-t11 : tie.Need-add-t11
+add-t11 c =
     let pre = c .before .before .before .before .before .before .before .before .before .before .before .before .before .pre in
     let power = c .before .before .before .before .before .before .before .before .before .before .before .power in
     let climb = c .before .before .before .before .before .before .before .before .before .climb in
@@ -81,11 +91,12 @@ returns-2 c =
     let power = c .before .before .before .before .before .before .before .before .before .before .before .power in
     let climb = c .before .before .before .before .before .before .before .before .before .climb in
     let if1 = c .before .before .before .before .before .before .before .if1 in
-    let split-place = c .before .before .before .before .before .split-place in
+    let axes = c .before .before .before .before .before .before .axes in
+    let place-above = c .before .before .before .before .before .place-above in
     let turned-on = c .before .before .before .before .turned-on in
     let own-of = c .before .before .own-of in
-    let box-depth = c .before .before .before .box-depth in
-    after-on (pre) _ (power .ensures) _ (climb .ensures) (if1 .left) _ (split-place .ensures) _ (turned-on .ensures) _ (own-of .ensures) _ (box-depth .ensures) _ (c .before .filled .ensures)
+    let boxes-above = c .before .before .before .boxes-above in
+    after-on (pre) _ (power .ensures) _ (climb .ensures) (if1 .left) _ (rw (axes .ensures) at (place-above .ensures)) _ (turned-on .ensures) _ (own-of .ensures) _ (rw (axes .ensures) at (boxes-above .ensures)) _ (c .before .filled .ensures)
 
 pub after-spec : {M : Type 1} → statement M
 after-spec =
@@ -96,12 +107,12 @@ after-spec =
     mul-path
     climb-requires
     returns
-    sub-above
-    split-place-requires
+    axes-requires
+    place-above-requires
     sub-turned-on
     turned-on-requires
-    box-depth-requires
+    boxes-above-requires
     own-of-requires
     filled-requires
-    add-t9
+    add-t11
     returns-2)

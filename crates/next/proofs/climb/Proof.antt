@@ -1,63 +1,86 @@
 -- `climb` meets its contract. The loop keeps: the 1s left to drop lead to the same cell.
-use mathlib.Core.Path.{sym, ap, _∙_, subst}
+use mathlib.Core.Path.{sym, subst}
 use Prim.Native.Nat.{ℕ}
 use native.Mathlib.Omega.{arith}
-use Rattle.dimension.specs.Sizes.{splitPlace}
+use Rattle.dimension.specs.Laws.{axes-range, split-sub, split-fits, split-rest}
 use Rattle.fours.specs.Laws.{fourOf}
 use Rattle.next.specs.Nexts.{ClimbReady}
-use Rattle.next.specs.Climbing.{Loop, loop-start, loop-end, loop-small, loop-some, loop-place, loop-turn, loop-more}
+use Rattle.next.specs.Climbing.{Loop, loop-start, loop-end, loop-small, loop-some, loop-boxes, loop-place, loop-turn, loop-more}
 use borrow.Author.Needs.{needs}
 use Rattle.next.proofs.climb.Statement.{statement}
 use Rattle.next.proofs.climb.Tie as tie
 
 abbrev Inv-loop : tie.InvT-loop
-Inv-loop path depth axes first₀ second₀ third₀ fourth₀ left₀ t₀ k₀ first second third fourth left t k = Loop axes (fourOf first₀ second₀ third₀ fourth₀) path depth (fourOf first second third fourth) left t k
+Inv-loop path depth axes first₀ second₀ third₀ fourth₀ left₀ t₀ boxes₀ k₀ first second third fourth left t boxes k = Loop axes (fourOf first₀ second₀ third₀ fourth₀) path depth (fourOf first second third fourth) left t k boxes
 
 abbrev μ-loop : tie.MeasureT-loop
-μ-loop path depth axes first₀ second₀ third₀ fourth₀ left₀ t₀ k₀ first second third fourth left t k = t
+μ-loop path depth axes first₀ second₀ third₀ fourth₀ left₀ t₀ boxes₀ k₀ first second third fourth left t boxes k = t
 
 axes-requires : tie.Need-axes-requires Inv-loop μ-loop
 axes-requires c κs = search needs
 
-split-place-requires : tie.Need-split-place-requires Inv-loop μ-loop
-split-place-requires c κs = search needs
+box-depth-requires : tie.Need-box-depth-requires Inv-loop μ-loop
+box-depth-requires c κs = search needs
+
+mul-k : tie.Need-mul-k Inv-loop μ-loop
+mul-k c =
+    let args = c .before .before .args in
+    record { fits = split-fits _ (args .depth) _ _ (c .before .axes .ensures) (c .box-depth .ensures) (omega arith) }
+
+sub-k : tie.Need-sub-k Inv-loop μ-loop
+sub-k c =
+    let args = c .before .before .args in
+    split-sub _ (args .depth) _ _ (c .before .axes .ensures) (c .box-depth .ensures)
+
+sub-k-2 : tie.Need-sub-k-2 Inv-loop μ-loop
+sub-k-2 c =
+    let args = c .before .before .args in
+    split-rest _ (args .depth) _ _ (omega (arith, axes-range (args .dim) .two)) (c .before .axes .ensures) (c .box-depth .ensures)
 
 loop-holds : tie.Need-loop-holds Inv-loop μ-loop
 loop-holds c =
     let args = c .before .before .args in
     let pre = c .before .before .pre in
-    loop-start _ (subst (λ (m : ℕ). ClimbReady m (args .from) (args .path) (args .depth)) (sym (c .before .axes .ensures)) (pre)) (rw (c .before .axes .ensures) (c .split-place .ensures))
+    loop-start _ (subst (λ (m : ℕ). ClimbReady m (args .from) (args .path) (args .depth)) (sym (c .before .axes .ensures)) (pre)) (rw (c .before .axes .ensures) (c .box-depth .ensures))
+
+boxes-above-requires : tie.Need-boxes-above-requires Inv-loop μ-loop
+boxes-above-requires c κs = loop-boxes (c .before .loop .inv) (c .loop-test .taken)
 
 place-above-requires : tie.Need-place-above-requires Inv-loop μ-loop
-place-above-requires c κs = loop-small (c .before .loop .inv)
+place-above-requires c κs =
+    let loop = c .before .before .loop in
+    loop-small (loop .inv)
 
 sub-turned-back : tie.Need-sub-turned-back Inv-loop μ-loop
 sub-turned-back c =
-    let loop = c .before .before .loop in
-    loop-place (loop .inv) (c .before .loop-test .taken) _ (c .place-above .ensures)
+    let loop = c .before .before .before .loop in
+    let loop-test = c .before .before .loop-test in
+    loop-place (loop .inv) (loop-test .taken) _ (c .place-above .ensures)
 
 turned-back-requires : tie.Need-turned-back-requires Inv-loop μ-loop
 turned-back-requires c κs =
-    let loop = c .before .before .loop in
-    loop-turn (loop .inv) (c .before .loop-test .taken) _ (c .place-above .ensures)
+    let loop = c .before .before .before .loop in
+    let loop-test = c .before .before .loop-test in
+    loop-turn (loop .inv) (loop-test .taken) _ (c .place-above .ensures)
 
 sub-t : tie.Need-sub-t Inv-loop μ-loop
 sub-t c =
-    let loop = c .before .before .before .loop in
-    let loop-test = c .before .before .loop-test in
+    let loop = c .before .before .before .before .loop in
+    let loop-test = c .before .before .before .loop-test in
     loop-some (loop .inv) (loop-test .taken)
 
 loop-less : tie.Need-loop-less Inv-loop μ-loop
 loop-less c =
-    let loop = c .before .before .before .loop in
-    let loop-test = c .before .before .loop-test in
+    let loop = c .before .before .before .before .loop in
+    let loop-test = c .before .before .before .loop-test in
     let some = loop-some (loop .inv) (loop-test .taken) in omega arith
 
 loop-again : tie.Need-loop-again Inv-loop μ-loop
 loop-again c =
-    let loop = c .before .before .before .loop in
-    let loop-test = c .before .before .loop-test in
-    loop-more (loop .inv) (loop-test .taken) _ (c .before .place-above .ensures) (c .turned-back .result) (c .turned-back .ensures)
+    let loop = c .before .before .before .before .loop in
+    let loop-test = c .before .before .before .loop-test in
+    let boxes-above = c .before .before .boxes-above in
+    loop-more (loop .inv) (loop-test .taken) _ (c .before .place-above .ensures) _ (boxes-above .ensures) (c .turned-back .result) (c .turned-back .ensures)
 
 returns : tie.Need-returns Inv-loop μ-loop
 returns c =
@@ -71,8 +94,12 @@ climb-spec =
     Inv-loop
     μ-loop
     axes-requires
-    split-place-requires
+    box-depth-requires
+    mul-k
+    sub-k
+    sub-k-2
     loop-holds
+    boxes-above-requires
     place-above-requires
     sub-turned-back
     turned-back-requires
