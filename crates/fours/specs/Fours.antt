@@ -2,13 +2,12 @@
 use mathlib.Core.Path.{_≡_}
 use mathlib.Core.Bool.{Bool, true, cond}
 use mathlib.Core.List.{List, [], _∷_, _++_}
-use Prim.Native.Nat.{ℕ}
+use Prim.Native.Nat.{ℕ, _/_, _%_, _^_}
 use lib.ListN.{getD, drop}
 use Rattle.bisection.specs.Codes.{axis, minus, high, orthant}
 use Rattle.bisection.specs.Refusals.{sameSign}
 use Rattle.bisection.specs.Theorems.Entries.{Signed}
 use Rattle.bisection.specs.Theorems.Passing.{unstepped}
-use Rattle.entries.specs.Masks.{markOf}
 use Rattle.fours.specs.declared.Four.{Four}
 
 abbrev pub four : Four → List ℕ
@@ -31,9 +30,9 @@ pub record BackIs (n own : ℕ) (es : List ℕ) (b : ℕ) (r : List ℕ) : Type 
   pub step : b ≡ cond (sameSign (minus (getD es n 0)) (high own (axis (getD es n 0)))) 0 1
   pub entries : r ≡ unstepped b n es
 
--- an entry's part in an orthant
+-- an entry's part in an orthant, for an axis 1 to 7
 unfoldable pub partOf : ℕ → ℕ
-partOf e = cond (minus e) (markOf (axis e)) 0
+partOf e = cond (minus e) (2 ^ (axis e % 8) / 2) 0
 
 -- whatever signed permutation they hold
 pub record OwnIs (e : Four) (r : ℕ) : Type 0 where

@@ -143,11 +143,11 @@ pub fn unstep(e: Four, n: usize, own: u8) -> Back
     }
 }
 
-// An entry's part in an orthant: high on its axis where it has a minus.
+// An entry's part in an orthant: high on its axis, 1 to 7, where it has a minus.
 fn part_of(e: u8) -> u8
     ensures { λ r. ⌜ r ≡ partOf e ⌝ }
 {
-    pick(entries::is_minus(e), entries::mark_of(e), 0)
+    pick(entries::is_minus(e), (1 << (entries::axis_of(e) % 8)) / 2, 0)
 }
 
 // The orthant that the entries give.
