@@ -78,7 +78,11 @@ unfoldable ones : ℕ → ℕ
 ones zero = 0
 ones (suc n) = 16 * ones n + 1
 
-ones-are : 0x111111111111 ≡ ones halvings
+-- ONES of the code: a digit 1 for each halving
+abbrev pub allOnes : ℕ
+allOnes = 0x111111111111
+
+ones-are : allOnes ≡ ones halvings
 unfolding ones halvings
 ones-are = refl
 
@@ -143,13 +147,13 @@ module _ (f o : ℕ) (h : f ≤ halvings) (small : o < 16) where
     pub fill-some : 0 < p
     fill-some = rw p-is (pow-pos (4 * f))
 
-    pub fill-high : 0x111111111111 * o / p * p < 2 ^ 60
-    fill-high = omega (arith, div-mul-le-self (0x111111111111 * o) p)
+    pub fill-high : allOnes * o / p * p < 2 ^ 60
+    fill-high = omega (arith, div-mul-le-self (allOnes * o) p)
 
     pub fill-low : (boxes : ℕ) → boxes % p < 2 ^ 61
     fill-low boxes = rw p-is (omega (arith, mod-lt boxes {m = 2 ^ (4 * f)} (pow-pos (4 * f)), pow-le-pow-right {n = 2} (omega arith) {i = 4 * f} {j = 60} fill-places))
 
-    pub fill-is : (boxes : ℕ) → digits halvings (boxes % p + 0x111111111111 * o / p * p) ≡ take f (digits halvings boxes) ++ replicate (halvings - f) o
+    pub fill-is : (boxes : ℕ) → digits halvings (boxes % p + allOnes * o / p * p) ≡ take f (digits halvings boxes) ++ replicate (halvings - f) o
     fill-is boxes =
         rw (p-is, ones-are) refl
         ∙ ap (λ (m : ℕ). digits m (boxes % 2 ^ (4 * f) + ones halvings * o / 2 ^ (4 * f) * 2 ^ (4 * f))) (sym left)

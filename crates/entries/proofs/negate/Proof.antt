@@ -5,12 +5,6 @@ use borrow.Author.Needs.{needs}
 use Rattle.entries.proofs.negate.Statement.{statement}
 use Rattle.entries.proofs.negate.Tie as tie
 
-returns : tie.Need-returns
-returns c = negated-minus (c .before .args .e) (c .if1 .taken)
-
-signed-of-requires : tie.Need-signed-of-requires
-signed-of-requires c κs = search needs
-
 sub-byte-of : tie.Need-sub-byte-of
 sub-byte-of c =
     let args = c .before .before .args in
@@ -29,4 +23,10 @@ returns-2 c =
 
 pub negate-spec : {M : Type 1} → statement M
 negate-spec =
-    tie.close (tie.spec returns signed-of-requires sub-byte-of byte-of-requires returns-2)
+    tie.close
+    (tie.spec
+    (λ c. negated-minus (c .before .args .e) (c .if1 .taken))
+    (λ c κs. search needs)
+    sub-byte-of
+    byte-of-requires
+    returns-2)
