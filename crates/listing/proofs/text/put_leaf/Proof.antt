@@ -7,20 +7,20 @@ use Rattle.listing.proofs.text.put_leaf.Tie as tie
 put-decimal-requires : tie.Need-put-decimal-requires
 put-decimal-requires c κs =
     let start = c .before .before .before in
-    leaf-fits (start .args .at) (start .args .number) (start .args .code .now) (start .args .out .now) start .pre .first
+    leaf-fits (start .args .at) (start .args .number) (start .args .code .now) (start .args .out .now) (start .pre) .first
 
 put-requires : tie.Need-put-requires
 put-requires c κs =
     let start = c .before .before .before .before .before .before .before .before in
     let put-decimal = c .before .before .before .before .put-decimal in
-    leaf-fits (start .args .at) (start .args .number) (start .args .code .now) (start .args .out .now) start .pre .second (put-decimal .ensures)
+    leaf-fits (start .args .at) (start .args .number) (start .args .code .now) (start .args .out .now) (start .pre) .second (put-decimal .ensures)
 
 put-hex-requires : tie.Need-put-hex-requires
 put-hex-requires c κs =
     let start = c .before .before .before .before .before .before .before .before .before .before .before .before in
     let put-decimal = c .before .before .before .before .before .before .before .before .put-decimal in
     let put = c .before .before .before .put in
-    leaf-fits (start .args .at) (start .args .number) (start .args .code .now) (start .args .out .now) start .pre .third (put-decimal .ensures) (put .ensures)
+    leaf-fits (start .args .at) (start .args .number) (start .args .code .now) (start .args .out .now) (start .pre) .third (put-decimal .ensures) (put .ensures)
 
 put-requires-2 : tie.Need-put-requires-2
 put-requires-2 c κs =
@@ -28,7 +28,7 @@ put-requires-2 c κs =
     let put-decimal = c .before .before .before .before .before .before .before .before .before .before .before .before .before .put-decimal in
     let put = c .before .before .before .before .before .before .before .before .put in
     let put-hex = c .before .before .before .before .put-hex in
-    leaf-fits (start .args .at) (start .args .number) (start .args .code .now) (start .args .out .now) start .pre .fourth (put-decimal .ensures) (put .ensures) (put-hex .ensures)
+    leaf-fits (start .args .at) (start .args .number) (start .args .code .now) (start .args .out .now) (start .pre) .fourth (put-decimal .ensures) (put .ensures) (put-hex .ensures)
 
 returns : tie.Need-returns
 returns c =
@@ -37,7 +37,7 @@ returns c =
     let put = c .before .before .before .before .before .before .before .before .before .before .before .put in
     let put-hex = c .before .before .before .before .before .before .before .put-hex in
     let put2 = c .before .before .put2 in
-    leaf-fits (start .args .at) (start .args .number) (start .args .code .now) (start .args .out .now) start .pre .whole (put-decimal .ensures) (put .ensures) (put-hex .ensures) (put2 .ensures)
+    leaf-fits (start .args .at) (start .args .number) (start .args .code .now) (start .args .out .now) (start .pre) .whole (put-decimal .ensures) (put .ensures) (put-hex .ensures) (put2 .ensures)
 
 pub put-leaf-spec : {M : Type 1} → statement M
 put-leaf-spec =
