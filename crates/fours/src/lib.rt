@@ -147,7 +147,11 @@ pub fn unstep(e: Four, n: usize, own: u8) -> Back
 fn part_of(e: u8) -> u8
     ensures { λ r. ⌜ r ≡ partOf e ⌝ }
 {
-    pick(entries::is_minus(e), (1 << (entries::axis_of(e) % 8)) / 2, 0)
+    pick(
+        entries::is_minus(e),
+        (1 << (entries::axis_of(e) % 8)) / 2,
+        0,
+    )
 }
 
 // The orthant that the entries give.

@@ -1,8 +1,8 @@
--- The table of all roots, and its rule, computed once.
+-- The table of all roots, four to a word and an entry to a digit, and its rule, computed once.
 use mathlib.Core.Path.{_≡_, refl, sym, ap, _∙_, subst}
 use mathlib.Core.Bool.{Bool, true}
 use mathlib.Core.List.{List, [], _∷_}
-use Prim.Native.Nat.{ℕ, zero, suc, _+_, _*_, _≤_, _<_}
+use Prim.Native.Nat.{ℕ, zero, suc, _+_, _-_, _*_, _/_, _%_, _^_, _≤_, _<_}
 use native.Mathlib.Omega.{arith}
 use lib.Dec.{eqb}
 use lib.ListN.{length, getD}
@@ -16,14 +16,20 @@ use Rattle.bisection.specs.Refusals.{each}
 use Rattle.bisection.specs.Theorems.Checked.{each-at}
 use Rattle.entries.specs.Walks.{placeIn, place-under, place-within}
 
-unfoldable pub rootTable : List ℕ
-rootTable =
-    1 ∷ 2 ∷ 0 ∷ 0 ∷ 2 ∷ 1 ∷ 0 ∷ 0
-    ∷ 1 ∷ 2 ∷ 3 ∷ 0 ∷ 1 ∷ 3 ∷ 2 ∷ 0 ∷ 2 ∷ 1 ∷ 3 ∷ 0 ∷ 2 ∷ 3 ∷ 1 ∷ 0 ∷ 3 ∷ 1 ∷ 2 ∷ 0 ∷ 3 ∷ 2 ∷ 1 ∷ 0
-    ∷ 1 ∷ 2 ∷ 3 ∷ 4 ∷ 1 ∷ 2 ∷ 4 ∷ 3 ∷ 1 ∷ 3 ∷ 2 ∷ 4 ∷ 1 ∷ 3 ∷ 4 ∷ 2 ∷ 1 ∷ 4 ∷ 2 ∷ 3 ∷ 1 ∷ 4 ∷ 3 ∷ 2
-    ∷ 2 ∷ 1 ∷ 3 ∷ 4 ∷ 2 ∷ 1 ∷ 4 ∷ 3 ∷ 2 ∷ 3 ∷ 1 ∷ 4 ∷ 2 ∷ 3 ∷ 4 ∷ 1 ∷ 2 ∷ 4 ∷ 1 ∷ 3 ∷ 2 ∷ 4 ∷ 3 ∷ 1
-    ∷ 3 ∷ 1 ∷ 2 ∷ 4 ∷ 3 ∷ 1 ∷ 4 ∷ 2 ∷ 3 ∷ 2 ∷ 1 ∷ 4 ∷ 3 ∷ 2 ∷ 4 ∷ 1 ∷ 3 ∷ 4 ∷ 1 ∷ 2 ∷ 3 ∷ 4 ∷ 2 ∷ 1
-    ∷ 4 ∷ 1 ∷ 2 ∷ 3 ∷ 4 ∷ 1 ∷ 3 ∷ 2 ∷ 4 ∷ 2 ∷ 1 ∷ 3 ∷ 4 ∷ 2 ∷ 3 ∷ 1 ∷ 4 ∷ 3 ∷ 1 ∷ 2 ∷ 4 ∷ 3 ∷ 2 ∷ 1 ∷ []
+unfoldable pub rootWords : List ℕ
+rootWords =
+    0x1200210012301320
+    ∷ 0x2130231031203210
+    ∷ 0x1234124313241342
+    ∷ 0x1423143221342143
+    ∷ 0x2314234124132431
+    ∷ 0x3124314232143241
+    ∷ 0x3412342141234132
+    ∷ 0x4213423143124321 ∷ []
+
+-- entry by entry
+unfoldable pub rootDigit : ℕ → ℕ
+rootDigit i = getD rootWords (i / 16) 0 / 2 ^ (60 - 4 * (i % 16)) % 16
 
 -- where the roots of d axes begin
 abbrev pub firstRow : ℕ → ℕ
@@ -34,10 +40,10 @@ firstRow (suc (suc (suc zero))) = 2
 firstRow (suc (suc (suc (suc d)))) = 8
 
 abbrev right : ℕ → ℕ → ℕ → Bool
-right d n place = eqb (getD rootTable (4 * (firstRow d + n) + place) 0) (getD (getD (roots d) n []) place 0)
+right d n place = eqb (rootDigit (4 * (firstRow d + n) + place)) (getD (getD (roots d) n []) place 0)
 
 rows-right : (dim : Dim) → each (rootCount (axesOf dim)) (λ n. each 4 (right (axesOf dim) n)) ≡ true
-unfolding rootTable each rootCount roots arrangements picks joined axesFrom
+unfolding rootWords rootDigit each rootCount roots arrangements picks joined axesFrom
 rows-right Two = refl
 rows-right Three = refl
 rows-right Four = refl
@@ -53,7 +59,7 @@ module _ (dim : Dim) (n : ℕ) {f c p : ℕ} (f-is : f ≡ firstRow (axesOf dim)
   pub row-in : f + p < 32
   row-in = rw (f-is, p-is, c-is) (row-under dim (placeIn n (rootCount (axesOf dim))) (place-within n (rootCount (axesOf dim)) (count-some (axesOf dim))))
 
-  pub row-is : n < rootCount (axesOf dim) → (place : ℕ) → place < 4 → getD rootTable (4 * (f + p) + place) 0 ≡ getD (getD (roots (axesOf dim)) n []) place 0
-  row-is h place l = ap (λ (row : ℕ). getD rootTable (4 * row + place) 0) (rw (f-is, p-is, c-is, place-under n (rootCount (axesOf dim)) h) refl)
-      ∙ eqb-true (getD rootTable (4 * (firstRow (axesOf dim) + n) + place) 0) (getD (getD (roots (axesOf dim)) n []) place 0)
+  pub row-is : n < rootCount (axesOf dim) → (place : ℕ) → place < 4 → rootDigit (4 * (f + p) + place) ≡ getD (getD (roots (axesOf dim)) n []) place 0
+  row-is h place l = ap (λ (row : ℕ). rootDigit (4 * row + place)) (rw (f-is, p-is, c-is, place-under n (rootCount (axesOf dim)) h) refl)
+      ∙ eqb-true (rootDigit (4 * (firstRow (axesOf dim) + n) + place)) (getD (getD (roots (axesOf dim)) n []) place 0)
       (each-at 4 (right (axesOf dim) n) (each-at (rootCount (axesOf dim)) (λ n. each 4 (right (axesOf dim) n)) (rows-right dim) n h) place l)

@@ -24,7 +24,7 @@ use Rattle.next.specs.declared.Next.{Next}
 use Rattle.next.specs.Paths.{steps, number, start-number}
 use Rattle.next.specs.Names.{nameAt, allBoxes, Rooted, rooted-range, rooted-some, name-passes-at}
 use Rattle.next.specs.Digits.{digits, digits-none}
-use Rattle.next.specs.RootTable.{firstRow, rootTable, row-is}
+use Rattle.next.specs.RootTable.{firstRow, rootDigit, row-is}
 use Rattle.next.specs.Nexts.{Stands, FirstIs}
 
 -- the entries of a list, filled up with zeros
@@ -69,7 +69,7 @@ module _ (d n : ℕ) (dim : isDimension d ≡ true) where
 
 -- the four entries of the root's row
 module _ (dim : Dim) (n : ℕ) {f c p : ℕ} (f-is : f ≡ firstRow (axesOf dim)) (c-is : c ≡ rootCount (axesOf dim)) (p-is : p ≡ placeIn n c) where
-  pub first-is : (e : Four) → e .first ≡ getD rootTable (4 * (f + p) + 0) 0 → e .second ≡ getD rootTable (4 * (f + p) + 1) 0 → e .third ≡ getD rootTable (4 * (f + p) + 2) 0 → e .fourth ≡ getD rootTable (4 * (f + p) + 3) 0
+  pub first-is : (e : Four) → e .first ≡ rootDigit (4 * (f + p) + 0) → e .second ≡ rootDigit (4 * (f + p) + 1) → e .third ≡ rootDigit (4 * (f + p) + 2) → e .fourth ≡ rootDigit (4 * (f + p) + 3)
       → FirstIs (axesOf dim) n (record { entries = e; boxes = 0; depth = 0; path = 0 })
   first-is e a b x y = record {
     first = λ h. root-stands (axesOf dim) n (axes-dimension dim) h e (let l = subst (λ (m : ℕ). n < m) (roots-count (axesOf dim)) h in

@@ -179,14 +179,14 @@ fn fits(edition: Edition, state: State, bytes: &[u8]) -> Match
         return none;
     }
     let rest = &bytes[MARK_LENGTH..];
-    let found = next::matches(state.next, dim, rest);
-    if found.length == 0 {
+    let code = next::matches(state.next, dim, rest);
+    if code.length == 0 {
         return none;
     }
-    if rest.len() < found.length + samples_length(edition.width, state.dimension) {
+    if rest.len() < code.length + samples_length(edition.width, state.dimension) {
         return none;
     }
-    found
+    code
 }
 
 // The state after a record that fits: the next cell is the one after its leaf, or the next root.
