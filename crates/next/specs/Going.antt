@@ -19,7 +19,7 @@ use Rattle.next.specs.declared.Up.{Up}
 use Rattle.next.specs.Paths.{zeros, zeros-length, stripped, stripped-short, Zero, zero-last, number, number-under, number-zeros}
 use Rattle.next.specs.Names.{nameAt, allBoxes, rooted-range, rooted-some, name-passes-at, boxes-step, zeros-entries, zeros-front, stripped-front}
 use Rattle.next.specs.Digits.{digits}
-use Rattle.next.specs.Nexts.{Cell, Stands, ClimbReady, UpIs, AfterReady, Gone, on, over, AfterIs}
+use Rattle.next.specs.Nexts.{entriesOf, nextOf, Cell, Stands, ClimbReady, UpIs, AfterReady, Gone, on, over, AfterIs}
 
 number-small : (p : List Bool) → length p ≤ 60 → number p < 2 ^ 60
 number-small p h = omega (arith, number-under p, pow-le-pow-right {n = 2} (omega arith) {i = length p} {j = 60} h)
@@ -41,8 +41,8 @@ module _ {d : ℕ} {s : Next} {root : List ℕ} {p : List Bool} (st : Stands d s
   pub leaf-number : s .path * 2 ^ (D - s .depth) < 2 ^ 64
   leaf-number = rw number-is (omega (arith, number-small q (omega (arith, q-size, leaf-short))))
 
-  pub leaf-cell : Cell d (s .entries) (s .path * 2 ^ (D - s .depth)) D root q
-  leaf-cell = record { rooted = st .cell .rooted; held = subst (Holds d (s .entries)) (sym (zeros-entries (st .cell .rooted) n p)) (st .cell .held); path-is = number-is; depth-is = sym q-size }
+  pub leaf-cell : Cell d (entriesOf s) (s .path * 2 ^ (D - s .depth)) D root q
+  leaf-cell = record { rooted = st .cell .rooted; held = subst (Holds d (entriesOf s)) (sym (zeros-entries (st .cell .rooted) n p)) (st .cell .held); path-is = number-is; depth-is = sym q-size }
 
   -- what is left without the 1s at the end
   module _ (u : Up) (c : Cell d (u .entries) (u .path) (u .depth) root (stripped q)) where
@@ -105,7 +105,7 @@ module _ {d : ℕ} {s : Next} {root : List ℕ} {p : List Bool} (st : Stands d s
             on-own = rw is-own (omega (arith, orthant-fits (on-held .signed), pow-le-pow-right {n = 2} (omega arith) {i = d} {j = 4} (held-few on-held)))
 
             pub on-stands : (boxes : ℕ) → digits halvings boxes ≡ take (boxDepth d (u .depth - 1)) (digits halvings (s .boxes)) ++ replicate (halvings - boxDepth d (u .depth - 1)) own
-                → Gone d root q (record { more = true; next = record { entries = e; boxes = boxes; depth = u .depth; path = u .path + 1 } })
+                → Gone d root q (record { more = true; next = nextOf e boxes (u .depth) (u .path + 1) })
             on-stands boxes b = on r (z .is) refl (record {
               cell = record { rooted = c .rooted; held = on-held; path-is = unfold number in omega (arith, here .path-is); depth-is = here .depth-is };
               deep = room;
@@ -130,13 +130,13 @@ module _ {d : ℕ} {s : Next} {D : ℕ} (y : AfterReady d s D) where
     pub after-path : s .path * m < 2 ^ 64
     after-path = rw m-is (leaf-number (y .stands) (y .n) D (y .depth-is) (y .deep))
 
-    cell-at : (root : List ℕ) (p : List Bool) (n : ℕ) → Stands d s root p → D ≡ n + length p → Cell d (s .entries) (s .path * m) D root (zeros n p)
+    cell-at : (root : List ℕ) (p : List Bool) (n : ℕ) → Stands d s root p → D ≡ n + length p → Cell d (entriesOf s) (s .path * m) D root (zeros n p)
     cell-at root p n st e = rw m-is (leaf-cell st n D e (y .deep))
 
-    pub after-climb : ClimbReady d (s .entries) (s .path * m) D
+    pub after-climb : ClimbReady d (entriesOf s) (s .path * m) D
     after-climb = record { root = y .root; path = zeros (y .n) (y .path); cell = cell-at (y .root) (y .path) (y .n) (y .stands) (y .depth-is) }
 
-    module _ (u : Up) (up : UpIs d (s .entries) (s .path * m) D u) where
+    module _ (u : Up) (up : UpIs d (entriesOf s) (s .path * m) D u) where
       up-at : (root : List ℕ) (p : List Bool) (n : ℕ) → Stands d s root p → D ≡ n + length p → Cell d (u .entries) (u .path) (u .depth) root (stripped (zeros n p))
       up-at root p n st e = up .up root (zeros n p) (cell-at root p n st e)
 
@@ -177,5 +177,5 @@ module _ {d : ℕ} {s : Next} {D : ℕ} (y : AfterReady d s D) where
             after-fill = (rw l-is (on-boxes (y .stands) (y .n) D (y .depth-is) (y .deep) u mine some), on-own (y .stands) (y .n) D (y .depth-is) (y .deep) u mine some k k-is e e-is own own-is)
 
             pub after-on : (boxes : ℕ) → digits halvings boxes ≡ take l (digits halvings (s .boxes)) ++ replicate (halvings - l) own
-                → AfterIs d s D (record { more = true; next = record { entries = e; boxes = boxes; depth = u .depth; path = u .path + 1 } })
+                → AfterIs d s D (record { more = true; next = nextOf e boxes (u .depth) (u .path + 1) })
             after-on boxes b = record { gone = λ root p n st f. on-stands st n D f (y .deep) u (up-at root p n st f) some k k-is e e-is own own-is boxes (rw l-is at b) }

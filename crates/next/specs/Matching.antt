@@ -21,7 +21,7 @@ use Rattle.next.specs.declared.Match.{Match}
 use Rattle.next.specs.Paths.{steps, steps-length, steps-good, zeros, zeros-length}
 use Rattle.next.specs.Names.{nameAt, allBoxes, rooted-some, name-is, name-passes-at, zeros-entries, zeros-front}
 use Rattle.next.specs.Digits.{digits, SameDigits, digits-take}
-use Rattle.next.specs.Nexts.{Stands, First, Matched, MatchIs, AfterReady}
+use Rattle.next.specs.Nexts.{entriesOf, Stands, First, Matched, MatchIs, AfterReady}
 
 -- the bytes of the code of depth D, and a rest
 pub record Shaped (d : ℕ) (s : Next) (bs : List ℕ) : Type 0 where
@@ -92,7 +92,7 @@ module _ {d : ℕ} {s : Next} {bs : List ℕ} (h : Shaped d s bs) where
   pub shaped-room : 2 + d + boxDepth d (h .D) ≤ length bs
   shaped-room = omega (arith, length-drop 2 bs, ap length behind, length-append (es (h .stands)) (ds ++ h .rest), length-append ds (h .rest), es-size (h .stands), ds-size, ap length (h .is))
 
-  pub shaped-entries : (x : Four) → four x ≡ paste noEntries 0 (drop 2 bs) d → four x ≡ four (s .entries)
+  pub shaped-entries : (x : Four) → four x ≡ paste noEntries 0 (drop 2 bs) d → four x ≡ four (entriesOf s)
   shaped-entries x q = q ∙ pasted (drop 2 bs) d ∙ ap (λ (l : List ℕ). l ++ drop d noEntries) (ap (take d) behind ∙ take-at (es (h .stands)) (ds ++ h .rest) d (es-size (h .stands))) ∙ sym (h .stands .cell .held .is)
 
   pub shaped-boxes : take (boxDepth d (h .D)) (drop (2 + d) bs) ≡ digits (boxDepth d (h .D)) (s .boxes)
@@ -127,7 +127,7 @@ module _ {d : ℕ} (s : Next) (D L : ℕ) (bs : List ℕ) (dim : getD bs 0 0 ≡
       two : take 2 bs ≡ d ∷ D ∷ []
       two = first-two bs (omega arith) ∙ rw (dim, dep) refl
 
-  module _ (x : Four) (x-is : four x ≡ paste noEntries 0 (drop 2 bs) d) (same : four x ≡ four (s .entries)) (alike : take L (drop (2 + d) bs) ≡ digits L (s .boxes)) where
+  module _ (x : Four) (x-is : four x ≡ paste noEntries 0 (drop 2 bs) d) (same : four x ≡ four (entriesOf s)) (alike : take L (drop (2 + d) bs) ≡ digits L (s .boxes)) where
     pub matched : MatchIs d s bs (record { length = 2 + d + L; depth = D })
     matched = record { room = room; hit = λ root p st q. hit root p st; told = λ root p st f q. omega (arith, q) }
       where

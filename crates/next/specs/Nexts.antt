@@ -26,9 +26,15 @@ pub record Cell (d : ℕ) (e : Four) (n t : ℕ) (root : List ℕ) (p : List Boo
   pub path-is : n ≡ number p
   pub depth-is : t ≡ length p
 
+abbrev pub entriesOf : Next → Four
+entriesOf s = record { first = s .first; second = s .second; third = s .third; fourth = s .fourth }
+
+abbrev pub nextOf : Four → ℕ → ℕ → ℕ → Next
+nextOf e boxes depth path = record { first = e .first; second = e .second; third = e .third; fourth = e .fourth; boxes = boxes; depth = depth; path = path }
+
 -- it stands for the cell of this root and path
 pub record Stands (d : ℕ) (s : Next) (root : List ℕ) (p : List Bool) : Type 0 where
-  pub cell : Cell d (s .entries) (s .path) (s .depth) root p
+  pub cell : Cell d (entriesOf s) (s .path) (s .depth) root p
   pub deep : length p ≤ greatestDepth d
   pub boxes-are : digits halvings (s .boxes) ≡ allBoxes d root p
 

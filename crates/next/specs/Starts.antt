@@ -25,7 +25,7 @@ use Rattle.next.specs.Paths.{steps, number, start-number}
 use Rattle.next.specs.Names.{nameAt, allBoxes, Rooted, rooted-range, rooted-some, name-passes-at}
 use Rattle.next.specs.Digits.{digits, digits-none}
 use Rattle.next.specs.RootTable.{firstRow, rootDigit, row-is}
-use Rattle.next.specs.Nexts.{Stands, FirstIs}
+use Rattle.next.specs.Nexts.{nextOf, Stands, FirstIs}
 
 -- the entries of a list, filled up with zeros
 padded : (es : List ℕ) → length es ≤ 4 → getD es 0 0 ∷ getD es 1 0 ∷ getD es 2 0 ∷ getD es 3 0 ∷ [] ≡ es ++ drop (length es) noEntries
@@ -51,7 +51,7 @@ module _ (d n : ℕ) (dim : isDimension d ≡ true) where
         small : (i : ℕ) → i < d → getD root i 0 < 128
         small i l = omega (arith, rooted .good .permutation .high i (omega (arith, rooted .axes)), rooted .axes, rooted-range rooted .few)
 
-    root-stands : (e : Four) → four e ≡ getD root 0 0 ∷ getD root 1 0 ∷ getD root 2 0 ∷ getD root 3 0 ∷ [] → Stands d (record { entries = e; boxes = 0; depth = 0; path = 0 }) root []
+    root-stands : (e : Four) → four e ≡ getD root 0 0 ∷ getD root 1 0 ∷ getD root 2 0 ∷ getD root 3 0 ∷ [] → Stands d (nextOf e 0 0 0) root []
     unfolding nameAt allBoxes number
     root-stands e q = record {
       cell = record {
@@ -70,7 +70,7 @@ module _ (d n : ℕ) (dim : isDimension d ≡ true) where
 -- the four entries of the root's row
 module _ (dim : Dim) (n : ℕ) {f c p : ℕ} (f-is : f ≡ firstRow (axesOf dim)) (c-is : c ≡ rootCount (axesOf dim)) (p-is : p ≡ placeIn n c) where
   pub first-is : (e : Four) → e .first ≡ rootDigit (4 * (f + p) + 0) → e .second ≡ rootDigit (4 * (f + p) + 1) → e .third ≡ rootDigit (4 * (f + p) + 2) → e .fourth ≡ rootDigit (4 * (f + p) + 3)
-      → FirstIs (axesOf dim) n (record { entries = e; boxes = 0; depth = 0; path = 0 })
+      → FirstIs (axesOf dim) n (nextOf e 0 0 0)
   first-is e a b x y = record {
     first = λ h. root-stands (axesOf dim) n (axes-dimension dim) h e (let l = subst (λ (m : ℕ). n < m) (roots-count (axesOf dim)) h in
         rw (a ∙ row-is dim n f-is c-is p-is l 0 (omega arith), b ∙ row-is dim n f-is c-is p-is l 1 (omega arith), x ∙ row-is dim n f-is c-is p-is l 2 (omega arith), y ∙ row-is dim n f-is c-is p-is l 3 (omega arith)) refl);

@@ -9,7 +9,7 @@ ghost use Prim.Native.Nat.{_+_, _-_, _≤_, _<_};
 ghost use lib.ListN.{length, take, drop, replicate};
 ghost use Rattle.dimension.specs.Sizes.{axesOf, halvings};
 ghost use Rattle.next.specs.Digits.{digits, SameDigits};
-ghost use Rattle.next.specs.Nexts.{MatchIs, ClimbReady, UpIs, AfterReady, AfterIs, FirstIs};
+ghost use Rattle.next.specs.Nexts.{entriesOf, MatchIs, ClimbReady, UpIs, AfterReady, AfterIs, FirstIs};
 use dimension::Dim;
 use entries::check;
 use fours::Four;
@@ -18,9 +18,13 @@ use fours::Four;
 const ONES: u64 = 0x1111_1111_1111;
 
 // The cell of a root and a path: its entries; the orthants of the first cell of greatest depth inside it, as digits base 16, the
-// first one lowest; its depth; and its path as a number, the first step highest.
+// first one lowest; its depth; and its path as a number, the first step highest. The entries have no struct of their own here: one
+// that is carried from leaf to leaf would be packed into a word and unpacked each time.
 pub struct Next {
-    pub entries: Four,
+    pub first: u8,
+    pub second: u8,
+    pub third: u8,
+    pub fourth: u8,
     pub boxes: u64,
     pub depth: usize,
     pub path: u64,
@@ -30,6 +34,18 @@ pub struct Next {
 pub struct Match {
     pub length: usize,
     pub depth: usize,
+}
+
+// The entries of the next cell.
+fn entries(next: Next) -> Four
+    ensures { λ r. ⌜ r ≡ entriesOf next ⌝ }
+{
+    Four {
+        first: next.first,
+        second: next.second,
+        third: next.third,
+        fourth: next.fourth,
+    }
 }
 
 // The n bytes from a place on are the first n digits of a number.
@@ -74,7 +90,7 @@ pub fn matches(next: Next, dim: Dim, bytes: &[u8]) -> Match
     if bytes.len() < length {
         return none;
     }
-    if !fours::same(fours::entries_of(bytes, axes), next.entries) {
+    if !fours::same(fours::entries_of(bytes, axes), entries(next)) {
         return none;
     }
     if !same_boxes(bytes, 2 + axes, boxes, next.boxes) {
@@ -160,19 +176,22 @@ pub fn after(next: Next, dim: Dim, depth: usize) -> Onward
     ensures { λ r. ⌜ AfterIs (axesOf dim) next depth r ⌝ }
 {
     let path = next.path * positions::power(depth - next.depth);
-    let up = climb(next.entries, path, depth, dim);
+    let up = climb(entries(next), path, depth, dim);
     if up.depth == 0 {
         return Onward { more: false, next };
     }
     let axes = dim.axes();
     let place = steps::place_above(up.place, axes);
-    let entries = fours::turned_on(up.entries, place - 1);
+    let turned = fours::turned_on(up.entries, place - 1);
     let above = steps::boxes_above(up.boxes, up.place, axes);
-    let boxes = filled(next.boxes, above, fours::own_of(entries));
+    let boxes = filled(next.boxes, above, fours::own_of(turned));
     Onward {
         more: true,
         next: Next {
-            entries,
+            first: turned.first,
+            second: turned.second,
+            third: turned.third,
+            fourth: turned.fourth,
             boxes,
             depth: up.depth,
             path: up.path + 1,
@@ -185,14 +204,11 @@ pub fn first(dim: Dim, n: usize) -> Next
     ensures { λ r. ⌜ FirstIs (axesOf dim) n r ⌝ }
 {
     let row = roots::first_row(dim) + check::place_in(n, dim.roots());
-    let entries = Four {
+    Next {
         first: roots::entry(row, 0),
         second: roots::entry(row, 1),
         third: roots::entry(row, 2),
         fourth: roots::entry(row, 3),
-    };
-    Next {
-        entries,
         boxes: 0,
         depth: 0,
         path: 0,

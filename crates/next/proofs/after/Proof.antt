@@ -16,79 +16,91 @@ mul-path c =
     let pre = c .before .before .before .pre in
     record { fits = after-path (pre) _ (c .before .power .ensures) }
 
+entries-requires : tie.Need-entries-requires
+entries-requires c κs = search needs
+
 climb-requires : tie.Need-climb-requires
 climb-requires c κs =
-    let pre = c .before .before .before .pre in
-    after-climb (pre) _ (c .before .power .ensures)
+    let pre = c .before .before .before .before .pre in
+    let power = c .before .before .power in
+    rw (c .entries .ensures) (after-climb (pre) _ (power .ensures))
 
 returns : tie.Need-returns
 returns c =
-    let pre = c .before .before .before .before .before .before .pre in
-    let power = c .before .before .before .before .power in
+    let pre = c .before .before .before .before .before .before .before .pre in
+    let power = c .before .before .before .before .before .power in
+    let entries = c .before .before .before .entries in
     let climb = c .before .before .climb in
-    after-over (pre) _ (power .ensures) _ (climb .ensures) (c .if1 .taken) _
+    after-over (pre) _ (power .ensures) _ (rw (entries .ensures) at (climb .ensures)) (c .if1 .taken) _
 
 axes-requires : tie.Need-axes-requires
 axes-requires c κs = search needs
 
 place-above-requires : tie.Need-place-above-requires
 place-above-requires c κs =
-    let pre = c .before .before .before .before .before .before .before .pre in
-    let power = c .before .before .before .before .before .power in
+    let pre = c .before .before .before .before .before .before .before .before .pre in
+    let power = c .before .before .before .before .before .before .power in
+    let entries = c .before .before .before .before .entries in
     let climb = c .before .before .before .climb in
-    after-small (pre) _ (power .ensures) _ (climb .ensures) (c .before .if1 .left)
+    after-small (pre) _ (power .ensures) _ (rw (entries .ensures) at (climb .ensures)) (c .before .if1 .left)
 
 sub-turned-on : tie.Need-sub-turned-on
 sub-turned-on c =
-    let pre = c .before .before .before .before .before .before .before .before .pre in
-    let power = c .before .before .before .before .before .before .power in
+    let pre = c .before .before .before .before .before .before .before .before .before .pre in
+    let power = c .before .before .before .before .before .before .before .power in
+    let entries = c .before .before .before .before .before .entries in
     let climb = c .before .before .before .before .climb in
     let if1 = c .before .before .if1 in
-    after-place (pre) _ (power .ensures) _ (climb .ensures) (if1 .left) _ (rw (c .before .axes .ensures) at (c .place-above .ensures))
+    after-place (pre) _ (power .ensures) _ (rw (entries .ensures) at (climb .ensures)) (if1 .left) _ (rw (c .before .axes .ensures) at (c .place-above .ensures))
 
 turned-on-requires : tie.Need-turned-on-requires
 turned-on-requires c κs =
-    let pre = c .before .before .before .before .before .before .before .before .pre in
-    let power = c .before .before .before .before .before .before .power in
+    let pre = c .before .before .before .before .before .before .before .before .before .pre in
+    let power = c .before .before .before .before .before .before .before .power in
+    let entries = c .before .before .before .before .before .entries in
     let climb = c .before .before .before .before .climb in
     let if1 = c .before .before .if1 in
-    after-turn (pre) _ (power .ensures) _ (climb .ensures) (if1 .left) _ (rw (c .before .axes .ensures) at (c .place-above .ensures))
+    after-turn (pre) _ (power .ensures) _ (rw (entries .ensures) at (climb .ensures)) (if1 .left) _ (rw (c .before .axes .ensures) at (c .place-above .ensures))
 
 boxes-above-requires : tie.Need-boxes-above-requires
 boxes-above-requires c κs =
     let axes = c .before .before .axes in
-    let pre = c .before .before .before .before .before .before .before .before .before .pre in
-    let power = c .before .before .before .before .before .before .before .power in
+    let pre = c .before .before .before .before .before .before .before .before .before .before .pre in
+    let power = c .before .before .before .before .before .before .before .before .power in
+    let entries = c .before .before .before .before .before .before .entries in
     let climb = c .before .before .before .before .before .climb in
     let if1 = c .before .before .before .if1 in
-    rw (axes .ensures) (after-boxes (pre) _ (power .ensures) _ (climb .ensures) (if1 .left))
+    rw (axes .ensures) (after-boxes (pre) _ (power .ensures) _ (rw (entries .ensures) at (climb .ensures)) (if1 .left))
 
 own-of-requires : tie.Need-own-of-requires
 own-of-requires c κs = search needs
 
 filled-requires : tie.Need-filled-requires
 filled-requires c κs =
-    let pre = c .before .before .before .before .before .before .before .before .before .before .before .pre in
-    let power = c .before .before .before .before .before .before .before .before .before .power in
+    let pre = c .before .before .before .before .before .before .before .before .before .before .before .before .pre in
+    let power = c .before .before .before .before .before .before .before .before .before .before .power in
+    let entries = c .before .before .before .before .before .before .before .before .entries in
     let climb = c .before .before .before .before .before .before .before .climb in
     let if1 = c .before .before .before .before .before .if1 in
     let axes = c .before .before .before .before .axes in
     let place-above = c .before .before .before .place-above in
     let turned-on = c .before .before .turned-on in
-    after-fill (pre) _ (power .ensures) _ (climb .ensures) (if1 .left) _ (rw (axes .ensures) at (place-above .ensures)) _ (turned-on .ensures) _ (c .own-of .ensures) _ (rw (axes .ensures) at (c .before .boxes-above .ensures))
+    after-fill (pre) _ (power .ensures) _ (rw (entries .ensures) at (climb .ensures)) (if1 .left) _ (rw (axes .ensures) at (place-above .ensures)) _ (turned-on .ensures) _ (c .own-of .ensures) _ (rw (axes .ensures) at (c .before .boxes-above .ensures))
 
 add-t11 : tie.Need-add-t11
 add-t11 c =
-    let pre = c .before .before .before .before .before .before .before .before .before .before .before .before .before .pre in
-    let power = c .before .before .before .before .before .before .before .before .before .before .before .power in
+    let pre = c .before .before .before .before .before .before .before .before .before .before .before .before .before .before .pre in
+    let power = c .before .before .before .before .before .before .before .before .before .before .before .before .power in
+    let entries = c .before .before .before .before .before .before .before .before .before .before .entries in
     let climb = c .before .before .before .before .before .before .before .before .before .climb in
     let if1 = c .before .before .before .before .before .before .before .if1 in
-    record { fits = after-number (pre) _ (power .ensures) _ (climb .ensures) (if1 .left) }
+    record { fits = after-number (pre) _ (power .ensures) _ (rw (entries .ensures) at (climb .ensures)) (if1 .left) }
 
 returns-2 : tie.Need-returns-2
 returns-2 c =
-    let pre = c .before .before .before .before .before .before .before .before .before .before .before .before .before .pre in
-    let power = c .before .before .before .before .before .before .before .before .before .before .before .power in
+    let pre = c .before .before .before .before .before .before .before .before .before .before .before .before .before .before .pre in
+    let power = c .before .before .before .before .before .before .before .before .before .before .before .before .power in
+    let entries = c .before .before .before .before .before .before .before .before .before .before .entries in
     let climb = c .before .before .before .before .before .before .before .before .before .climb in
     let if1 = c .before .before .before .before .before .before .before .if1 in
     let axes = c .before .before .before .before .before .before .axes in
@@ -96,7 +108,7 @@ returns-2 c =
     let turned-on = c .before .before .before .before .turned-on in
     let own-of = c .before .before .own-of in
     let boxes-above = c .before .before .before .boxes-above in
-    after-on (pre) _ (power .ensures) _ (climb .ensures) (if1 .left) _ (rw (axes .ensures) at (place-above .ensures)) _ (turned-on .ensures) _ (own-of .ensures) _ (rw (axes .ensures) at (boxes-above .ensures)) _ (c .before .filled .ensures)
+    after-on (pre) _ (power .ensures) _ (rw (entries .ensures) at (climb .ensures)) (if1 .left) _ (rw (axes .ensures) at (place-above .ensures)) _ (turned-on .ensures) _ (own-of .ensures) _ (rw (axes .ensures) at (boxes-above .ensures)) _ (c .before .filled .ensures)
 
 pub after-spec : {M : Type 1} → statement M
 after-spec =
@@ -105,6 +117,7 @@ after-spec =
     sub-power
     power-requires
     mul-path
+    entries-requires
     climb-requires
     returns
     axes-requires

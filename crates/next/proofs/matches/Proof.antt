@@ -76,14 +76,18 @@ entries-of-requires c κs =
     let axes = c .before .before .before .before .before .before .before .before .before .before .before .axes in
     let range = axes-range (args .dim) in (omega (arith, axes .ensures, range .two), omega (arith, axes .ensures, range .few), omega (arith, c .if4 .left))
 
+entries-requires : tie.Need-entries-requires
+entries-requires c κs = search needs
+
 same-requires : tie.Need-same-requires
 same-requires c κs = search needs
 
 returns-5 : tie.Need-returns-5
 returns-5 c =
-    let entries-of = c .before .before .entries-of in
-    let axes = c .before .before .before .before .before .before .before .before .before .before .before .before .before .before .axes in
-    not-matched (λ h. subst T (sym (c .before .same .ensures .told (shaped-entries h (entries-of .result) (rw (axes .ensures) at (entries-of .ensures)))) ∙ not-true _ (c .if5 .taken)) tt)
+    let entries = c .before .before .entries in
+    let entries-of = c .before .before .before .entries-of in
+    let axes = c .before .before .before .before .before .before .before .before .before .before .before .before .before .before .before .axes in
+    not-matched (λ h. subst T (sym ((rw (entries .ensures) at (c .before .same .ensures)) .told (shaped-entries h (entries-of .result) (rw (axes .ensures) at (entries-of .ensures)))) ∙ not-true _ (c .if5 .taken)) tt)
 
 add-same-boxes : tie.Need-add-same-boxes
 add-same-boxes c = search needs
@@ -93,32 +97,33 @@ same-boxes-requires c κs = search needs
 
 returns-6 : tie.Need-returns-6
 returns-6 c =
-    let size = c .before .before .before .before .before .before .before .before .before .before .before .before .before .before .size in
-    let axes = c .before .before .before .before .before .before .before .before .before .before .before .before .before .before .before .before .axes in
-    let box-depth = c .before .before .before .before .before .before .box-depth in
+    let size = c .before .before .before .before .before .before .before .before .before .before .before .before .before .before .before .size in
+    let axes = c .before .before .before .before .before .before .before .before .before .before .before .before .before .before .before .before .before .axes in
+    let box-depth = c .before .before .before .before .before .before .before .box-depth in
     not-matched (λ h.
-    let deep : size .result ≡ h .D = size .ensures ∙ shaped-depth h in
-    subst T (sym (c .before .same-boxes .ensures .told (rw (axes .ensures, box-depth .ensures, deep) (shaped-boxes h))) ∙ not-true _ (c .if6 .taken)) tt)
+      let deep : size .result ≡ h .D = size .ensures ∙ shaped-depth h in
+      subst T (sym (c .before .same-boxes .ensures .told (rw (axes .ensures, box-depth .ensures, deep) (shaped-boxes h))) ∙ not-true _ (c .if6 .taken)) tt)
 
 returns-7 : tie.Need-returns-7
 returns-7 c =
-    let args = c .before .before .before .before .before .before .before .before .before .before .before .before .before .before .before .before .before .before .args in
-    let axes = c .before .before .before .before .before .before .before .before .before .before .before .before .before .before .before .before .axes in
-    let box-depth = c .before .before .before .before .before .before .box-depth in
-    let size = c .before .before .before .before .before .before .before .before .before .before .before .before .before .before .size in
-    let size2 = c .before .before .before .before .before .before .before .before .before .before .before .before .size2 in
-    let if1 = c .before .before .before .before .before .before .before .before .before .before .before .if1 in
-    let if2 = c .before .before .before .before .before .before .before .before .before .if2 in
-    let greatest-depth = c .before .before .before .before .before .before .before .before .greatest-depth in
-    let if3 = c .before .before .before .before .before .before .before .if3 in
-    let if4 = c .before .before .before .before .before .if4 in
-    let entries-of = c .before .before .before .before .entries-of in
+    let args = c .before .before .before .before .before .before .before .before .before .before .before .before .before .before .before .before .before .before .before .args in
+    let axes = c .before .before .before .before .before .before .before .before .before .before .before .before .before .before .before .before .before .axes in
+    let box-depth = c .before .before .before .before .before .before .before .box-depth in
+    let size = c .before .before .before .before .before .before .before .before .before .before .before .before .before .before .before .size in
+    let size2 = c .before .before .before .before .before .before .before .before .before .before .before .before .before .size2 in
+    let if1 = c .before .before .before .before .before .before .before .before .before .before .before .before .if1 in
+    let if2 = c .before .before .before .before .before .before .before .before .before .before .if2 in
+    let greatest-depth = c .before .before .before .before .before .before .before .before .before .greatest-depth in
+    let if3 = c .before .before .before .before .before .before .before .before .if3 in
+    let if4 = c .before .before .before .before .before .before .if4 in
+    let entries-of = c .before .before .before .before .before .entries-of in
+    let entries = c .before .before .before .before .entries in
     let same = c .before .before .before .same in
     let if5 = c .before .before .if5 in
     subst (λ (m : ℕ). MatchIs m (args .next) (args .bytes .now) (record { length = 2 + axes .result + box-depth .result; depth = size .result })) (axes .ensures)
     (matched (args .next) (size .result) (box-depth .result) (args .bytes .now) (sym (size2 .ensures) ∙ if1 .left) (sym (size .ensures)) (box-depth .ensures ∙ ap (λ (m : ℕ). boxDepth m (size .result)) (sym (axes .ensures)))
     (if2 .left) (subst (λ (m : ℕ). size .result ≤ greatestDepth m) (sym (axes .ensures)) (rw (greatest-depth .ensures) at (if3 .left))) (if4 .left) (entries-of .result) (entries-of .ensures)
-    (same .ensures .equal (not-false _ (if5 .left))) (c .before .same-boxes .ensures .equal (not-false _ (c .if6 .left))))
+    ((rw (entries .ensures) at (same .ensures)) .equal (not-false _ (if5 .left))) (c .before .same-boxes .ensures .equal (not-false _ (c .if6 .left))))
 
 pub matches-spec : {M : Type 1} → statement M
 matches-spec =
@@ -138,6 +143,7 @@ matches-spec =
     add-length-2
     returns-4
     entries-of-requires
+    entries-requires
     same-requires
     returns-5
     add-same-boxes
