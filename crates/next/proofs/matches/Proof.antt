@@ -101,8 +101,8 @@ returns-6 c =
     let axes = c .before .before .before .before .before .before .before .before .before .before .before .before .before .before .before .before .before .axes in
     let box-depth = c .before .before .before .before .before .before .before .box-depth in
     not-matched (λ h.
-      let deep : size .result ≡ h .D = size .ensures ∙ shaped-depth h in
-      subst T (sym (c .before .same-boxes .ensures .told (rw (axes .ensures, box-depth .ensures, deep) (shaped-boxes h))) ∙ not-true _ (c .if6 .taken)) tt)
+    let deep : size .result ≡ h .D = size .ensures ∙ shaped-depth h in
+    subst T (sym (c .before .same-boxes .ensures .told (rw (axes .ensures, box-depth .ensures, deep) (shaped-boxes h))) ∙ not-true _ (c .if6 .taken)) tt)
 
 returns-7 : tie.Need-returns-7
 returns-7 c =
