@@ -1,15 +1,15 @@
 -- The laws of entries by value: one for each function, and what a turn does to a signed permutation that they hold.
 use mathlib.Core.Path.{_≡_, refl, sym, ap, _∙_, subst}
 use mathlib.Core.Bool.{Bool, true, false, cond}
-use mathlib.Core.List.{List, [], _∷_, _++_}
+use mathlib.Core.List.{List, [], _∷_, _++_, append-assoc}
 use Prim.Native.Nat.{ℕ, zero, suc, _+_, _-_, _≤_, _<_}
 use native.Mathlib.Omega.{arith}
 use native.Mathlib.Nat.{zero-add}
 use lib.Dec.{T, ltb, eqb}
-use lib.ListN.{length, getD, take, drop, length-append, length-drop, List·getD-append}
-use lib.Seq.{paste, take-at}
-use borrow.Author.Tests.{eq-eqb, eqb-true, lt-ltb, le-ltb}
-use Rattle.bisection.specs.Codes.{axis, minus, negated, turned, high}
+use lib.ListN.{length, getD, take, drop, set, length-append, length-drop, take-append-drop, List·getD-append}
+use lib.Seq.{paste, take-at, take-set-le, drop-set-add, drop-drop, getD-drop}
+use borrow.Author.Tests.{eq-eqb, ne-eqb, eqb-true, lt-ltb, le-ltb}
+use Rattle.bisection.specs.Codes.{axis, minus, negated, turned, stepped, high}
 use Rattle.bisection.specs.Refusals.{sameSign}
 use Rattle.bisection.specs.Theorems.Entries.{Signed, unturned, turned-append, unturned-append, signed-turned, signed-unturned}
 use Rattle.bisection.specs.Theorems.Passing.{unstepped}
@@ -48,6 +48,13 @@ on-is e (suc (suc zero)) m h q = ap (λ (x : ℕ). e .second ∷ e .third ∷ x 
 on-is e (suc (suc (suc zero))) m h q = ap (λ (x : ℕ). e .second ∷ e .third ∷ e .fourth ∷ x ∷ []) q
 on-is e (suc (suc (suc (suc n)))) m h q = absurd (omega arith)
 
+-- the step to a child: the entries as they are for child 0, turned for child 1
+pub step-is : (e t : Four) (n b : ℕ) → four t ≡ turned (suc n) (four e)
+    → four (fourOf (cond (eqb b 0) (e .first) (t .first)) (cond (eqb b 0) (e .second) (t .second)) (cond (eqb b 0) (e .third) (t .third)) (cond (eqb b 0) (e .fourth) (t .fourth))) ≡ stepped b (suc n) (four e)
+unfolding stepped
+step-is e t n zero q = refl
+step-is e t n (suc b) q = rw (ne-eqb (suc b) 0 (λ z. absurd (omega arith))) q
+
 -- one step up: the entries as they are where the sign is the box's own, turned back where it is not
 pub unstep-is : (e t : Four) (n own : ℕ) (same : Bool) → same ≡ sameSign (minus (getD (four e) n 0)) (high own (axis (getD (four e) n 0))) → four t ≡ unturned n (four e)
     → BackIs n own (four e) (cond same 0 1)
@@ -56,27 +63,73 @@ unfolding unstepped
 unstep-is e t n own true s q = record { step = ap (λ (b : Bool). cond b 0 1) s; entries = refl }
 unstep-is e t n own false s q = record { step = ap (λ (b : Bool). cond b 0 1) s; entries = q }
 
--- the entries of a code
+-- an entry, where the dimension has it
 pub entry-none : (d n x : ℕ) → d ≤ n → 0 ≡ cond (ltb n d) x 0
 entry-none d n x h = rw (le-ltb n d h) refl
 
 pub entry-some : (d n x : ℕ) → n < d → x ≡ cond (ltb n d) x 0
 entry-some d n x h = rw (lt-ltb n d h) refl
 
-pub entries-are : (code : List ℕ) (d : ℕ) → 2 ≤ d → d ≤ 4 → 2 + d ≤ length code
-    → four (fourOf (getD code 2 0) (getD code 3 0) (cond (ltb 2 d) (getD code 4 0) 0) (cond (ltb 3 d) (getD code 5 0) 0)) ≡ paste noEntries 0 (drop 2 code) d
-entries-are (x ∷ y ∷ a ∷ b ∷ code) (suc (suc zero)) l h r = refl
-entries-are (x ∷ y ∷ a ∷ b ∷ c ∷ code) (suc (suc (suc zero))) l h r = refl
-entries-are (x ∷ y ∷ a ∷ b ∷ c ∷ e ∷ code) (suc (suc (suc (suc zero)))) l h r = refl
-entries-are [] d l h r = absurd (omega arith)
-entries-are (x ∷ []) d l h r = absurd (omega arith)
-entries-are (x ∷ (y ∷ [])) d l h r = absurd (omega arith)
-entries-are (x ∷ (y ∷ (a ∷ []))) d l h r = absurd (omega arith)
-entries-are (x ∷ (y ∷ (a ∷ (b ∷ _)))) zero l h r = absurd (omega arith)
-entries-are (x ∷ (y ∷ (a ∷ (b ∷ _)))) (suc zero) l h r = absurd (omega arith)
-entries-are (x ∷ (y ∷ (a ∷ (b ∷ [])))) (suc (suc (suc d))) l h r = absurd (omega arith)
-entries-are (x ∷ (y ∷ (a ∷ (b ∷ (c ∷ []))))) (suc (suc (suc (suc d)))) l h r = absurd (omega arith)
-entries-are (x ∷ (y ∷ (a ∷ (b ∷ (c ∷ (e ∷ code)))))) (suc (suc (suc (suc (suc d))))) l h r = absurd (omega arith)
+-- the entries from a place on, read and written
+start-are : (l : List ℕ) (d : ℕ) → 2 ≤ d → d ≤ 4 → d ≤ length l
+    → four (fourOf (getD l 0 0) (getD l 1 0) (cond (ltb 2 d) (getD l 2 0) 0) (cond (ltb 3 d) (getD l 3 0) 0)) ≡ paste noEntries 0 l d
+start-are (a ∷ b ∷ l) (suc (suc zero)) two few r = refl
+start-are (a ∷ b ∷ c ∷ l) (suc (suc (suc zero))) two few r = refl
+start-are (a ∷ b ∷ c ∷ e ∷ l) (suc (suc (suc (suc zero)))) two few r = refl
+start-are [] d two few r = absurd (omega arith)
+start-are (a ∷ []) d two few r = absurd (omega arith)
+start-are (a ∷ (b ∷ l)) zero two few r = absurd (omega arith)
+start-are (a ∷ (b ∷ l)) (suc zero) two few r = absurd (omega arith)
+start-are (a ∷ (b ∷ [])) (suc (suc (suc d))) two few r = absurd (omega arith)
+start-are (a ∷ (b ∷ (c ∷ []))) (suc (suc (suc (suc d)))) two few r = absurd (omega arith)
+start-are (a ∷ (b ∷ (c ∷ (e ∷ l)))) (suc (suc (suc (suc (suc d))))) two few r = absurd (omega arith)
+
+start-written : (l : List ℕ) (d : ℕ) (e : Four) → 2 ≤ d → d ≤ 4 → d ≤ length l
+    → set (set (set (set l (placeIn 3 d) (e .fourth)) (placeIn 2 d) (e .third)) 1 (e .second)) 0 (e .first) ≡ take d (four e) ++ drop d l
+start-written (a ∷ b ∷ l) (suc (suc zero)) e two few r = refl
+start-written (a ∷ b ∷ c ∷ l) (suc (suc (suc zero))) e two few r = refl
+start-written (a ∷ b ∷ c ∷ f ∷ l) (suc (suc (suc (suc zero)))) e two few r = refl
+start-written [] d e two few r = absurd (omega arith)
+start-written (a ∷ []) d e two few r = absurd (omega arith)
+start-written (a ∷ (b ∷ l)) zero e two few r = absurd (omega arith)
+start-written (a ∷ (b ∷ l)) (suc zero) e two few r = absurd (omega arith)
+start-written (a ∷ (b ∷ [])) (suc (suc (suc d))) e two few r = absurd (omega arith)
+start-written (a ∷ (b ∷ (c ∷ []))) (suc (suc (suc (suc d)))) e two few r = absurd (omega arith)
+start-written (a ∷ (b ∷ (c ∷ (f ∷ l)))) (suc (suc (suc (suc (suc d))))) e two few r = absurd (omega arith)
+
+module _ (l : List ℕ) (at d : ℕ) (two : 2 ≤ d) (few : d ≤ 4) (r : at + d ≤ length l) where
+  enough : d ≤ length (drop at l)
+  enough = rw (length-drop at l) (omega arith)
+
+  here : at ≡ at + 0
+  here = omega arith
+
+  pub entries-are : four (fourOf (getD l at 0) (getD l (at + 1) 0) (cond (ltb 2 d) (getD l (at + 2) 0) 0) (cond (ltb 3 d) (getD l (at + 3) 0) 0)) ≡ paste noEntries 0 (drop at l) d
+  entries-are = rw (ap (λ (i : ℕ). getD l i 0) here, ← getD-drop at l 0 0, ← getD-drop at l 1 0, ← getD-drop at l 2 0, ← getD-drop at l 3 0)
+      (start-are (drop at l) d two few enough)
+
+  module _ (e : Four) where
+    w : List ℕ
+    w = set (set (set (set l (at + placeIn 3 d) (e .fourth)) (at + placeIn 2 d) (e .third)) (at + 1) (e .second)) (at + 0) (e .first)
+
+    before : take at w ≡ take at l
+    unfolding w
+    before = rw (
+      take-set-le at (set (set (set l (at + placeIn 3 d) (e .fourth)) (at + placeIn 2 d) (e .third)) (at + 1) (e .second)) (at + 0) (e .first) (omega arith),
+      take-set-le at (set (set l (at + placeIn 3 d) (e .fourth)) (at + placeIn 2 d) (e .third)) (at + 1) (e .second) (omega arith),
+      take-set-le at (set l (at + placeIn 3 d) (e .fourth)) (at + placeIn 2 d) (e .third) (omega arith), take-set-le at l (at + placeIn 3 d) (e .fourth) (omega arith)) refl
+
+    behind : drop at w ≡ take d (four e) ++ drop (at + d) l
+    unfolding w
+    behind = rw (drop-set-add at (set (set (set l (at + placeIn 3 d) (e .fourth)) (at + placeIn 2 d) (e .third)) (at + 1) (e .second)) 0 (e .first),
+      drop-set-add at (set (set l (at + placeIn 3 d) (e .fourth)) (at + placeIn 2 d) (e .third)) 1 (e .second),
+      drop-set-add at (set l (at + placeIn 3 d) (e .fourth)) (placeIn 2 d) (e .third), drop-set-add at l (placeIn 3 d) (e .fourth))
+        (start-written (drop at l) d e two few enough ∙ ap (λ (m : List ℕ). take d (four e) ++ m) (drop-drop d at l))
+
+    pub written-are : set (set (set (set l (at + placeIn 3 d) (e .fourth)) (at + placeIn 2 d) (e .third)) (at + 1) (e .second)) at (e .first) ≡ paste l at (four e) d
+    unfolding w
+    written-are = ap (λ (i : ℕ). set (set (set (set l (at + placeIn 3 d) (e .fourth)) (at + placeIn 2 d) (e .third)) (at + 1) (e .second)) i (e .first)) here
+        ∙ sym (take-append-drop at w) ∙ rw (before, behind) (sym (append-assoc (take at l) (take d (four e)) (drop (at + d) l)))
 
 -- the same entries
 pub same-not : (a b : Four) (i : ℕ) → (getD (four a) i 0 ≡ getD (four b) i 0 → ⊥) → SameFour a b false
@@ -114,6 +167,11 @@ module _ {d : ℕ} {e : Four} {es : List ℕ} (h : Holds d e es) where
 
     pub held-unturned : four r ≡ unturned n (four e) → Holds d r (unturned n es)
     held-unturned q = record { signed = signed-unturned (h .signed) n l small; is = q ∙ ap (unturned n) (h .is) ∙ unturned-append n es (drop d noEntries) room }
+
+    pub held-stepped : (b : ℕ) → four r ≡ stepped b (suc n) (four e) → Holds d r (stepped b (suc n) es)
+    unfolding stepped
+    held-stepped zero q = record { signed = h .signed; is = q ∙ h .is }
+    held-stepped (suc b) q = held-turned q
 
   -- the same entries hold the same, and those of a code what it has
   pub held-same : {x : Four} {xs : List ℕ} → four x ≡ xs ++ drop d noEntries → length xs ≡ d → four x ≡ four e → xs ≡ es

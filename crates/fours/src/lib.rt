@@ -6,7 +6,7 @@ ghost use Prim.Native.Nat.{suc, _+_, _≤_, _<_};
 ghost use lib.Dec.{ltb};
 ghost use lib.ListN.{length, getD, drop};
 ghost use lib.Seq.{paste};
-ghost use Rattle.bisection.specs.Codes.{axis, turned};
+ghost use Rattle.bisection.specs.Codes.{axis, turned, stepped};
 ghost use Rattle.bisection.specs.Theorems.Entries.{unturned};
 ghost use Rattle.fours.specs.Fours.{four, noEntries, partOf, SameFour, BackIs, OwnIs};
 use entries::check;
@@ -46,28 +46,39 @@ fn entry(e: Four, n: usize) -> u8
     )
 }
 
-// The entry of a code at a place, 0 where its dimension has none. A branch, since the dimension is foreseen.
-fn entry_in(code: &[u8], n: usize, d: usize) -> u8
-    requires { ⌜ (n < 4) × (2 + d ≤ length (now code)) ⌝ }
-    ensures { λ r. ⌜ r ≡ cond (ltb n d) (getD (now (code .entry)) (2 + n) 0) 0 ⌝ }
+// The entry at a place behind another, 0 where the dimension has none. A branch, since the dimension is foreseen.
+fn entry_in(bytes: &[u8], at: usize, n: usize, d: usize) -> u8
+    requires { ⌜ (n < 4) × (at + d ≤ length (now bytes)) ⌝ }
+    ensures { λ r. ⌜ r ≡ cond (ltb n d) (getD (now (bytes .entry)) (at + n) 0) 0 ⌝ }
 {
     if d <= n {
         return 0;
     }
-    code[2 + n]
+    bytes[at + n]
 }
 
-// The entries of a code.
-pub fn entries_of(code: &[u8], d: usize) -> Four
-    requires { ⌜ (2 ≤ d) × (d ≤ 4) × (2 + d ≤ length (now code)) ⌝ }
-    ensures { λ r. ⌜ four r ≡ paste noEntries 0 (drop 2 (now (code .entry))) d ⌝ }
+// The d entries that stand from a place on.
+pub fn entries_of(bytes: &[u8], at: usize, d: usize) -> Four
+    requires { ⌜ (2 ≤ d) × (d ≤ 4) × (at + d ≤ length (now bytes)) ⌝ }
+    ensures { λ r. ⌜ four r ≡ paste noEntries 0 (drop at (now (bytes .entry))) d ⌝ }
 {
     Four {
-        first: code[2],
-        second: code[3],
-        third: entry_in(code, 2, d),
-        fourth: entry_in(code, 3, d),
+        first: bytes[at],
+        second: bytes[at + 1],
+        third: entry_in(bytes, at, 2, d),
+        fourth: entry_in(bytes, at, 3, d),
     }
+}
+
+// Writes the first d of them from a place on. One that the dimension lacks goes to the first place, and is overwritten.
+pub fn write(e: Four, d: usize, out: &mut [u8], at: usize)
+    requires { ⌜ (2 ≤ d) × (d ≤ 4) × (at + d ≤ length (now out)) ⌝ }
+    ensures { λ r. ⌜ now (out .exit) ≡ paste (now (out .entry)) at (four e) d ⌝ }
+{
+    out[at + check::place_in(3, d)] = e.fourth;
+    out[at + check::place_in(2, d)] = e.third;
+    out[at + 1] = e.second;
+    out[at] = e.first;
 }
 
 // The entries are the same, one by one.
@@ -96,6 +107,25 @@ pub fn turned_on(e: Four, n: usize) -> Four
     let second = pick(n == 1, moved, pick(1 < n, e.third, e.second));
     let third = pick(n == 2, moved, pick(2 < n, e.fourth, e.third));
     let fourth = pick(n == 3, moved, e.fourth);
+    Four {
+        first,
+        second,
+        third,
+        fourth,
+    }
+}
+
+// The step to a child: child 1 turns the first n + 1 entries.
+pub fn step(e: Four, n: usize, which: u8) -> Four
+    requires { ⌜ (n < 4) × (1 ≤ axis (e .first)) ⌝ }
+    ensures { λ r. ⌜ four r ≡ stepped which (suc n) (four e) ⌝ }
+{
+    let same = which == 0;
+    let turned = turned_on(e, n);
+    let first = pick(same, e.first, turned.first);
+    let second = pick(same, e.second, turned.second);
+    let third = pick(same, e.third, turned.third);
+    let fourth = pick(same, e.fourth, turned.fourth);
     Four {
         first,
         second,

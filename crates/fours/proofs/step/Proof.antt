@@ -1,0 +1,39 @@
+-- `step` meets its contract.
+use Rattle.fours.specs.Laws.{step-is}
+use borrow.Author.Needs.{needs}
+use Rattle.fours.proofs.step.Statement.{statement}
+use Rattle.fours.proofs.step.Tie as tie
+
+turned-on-requires : tie.Need-turned-on-requires
+turned-on-requires c κs = search needs
+
+pick-requires : tie.Need-pick-requires
+pick-requires c κs = search needs
+
+pick-requires-2 : tie.Need-pick-requires-2
+pick-requires-2 c κs = search needs
+
+pick-requires-3 : tie.Need-pick-requires-3
+pick-requires-3 c κs = search needs
+
+pick-requires-4 : tie.Need-pick-requires-4
+pick-requires-4 c κs = search needs
+
+returns : tie.Need-returns
+returns c =
+    let pick = c .before .before .before .pick in
+    let pick2 = c .before .before .pick2 in
+    let args = c .before .before .before .before .before .args in
+    let turned-on = c .before .before .before .before .turned-on in
+    rw (pick .ensures, pick2 .ensures, c .before .pick3 .ensures, c .pick4 .ensures) (step-is (args .e) (turned-on .result) (args .n) (args .which) (turned-on .ensures))
+
+pub step-spec : {M : Type 1} → statement M
+step-spec =
+    tie.close
+    (tie.spec
+    turned-on-requires
+    pick-requires
+    pick-requires-2
+    pick-requires-3
+    pick-requires-4
+    returns)
