@@ -1,18 +1,22 @@
--- The root and the path of a code that passes, as they are written: its entries copied, and their steps taken back.
-use mathlib.Core.Path.{_≡_, refl, sym, ap, _∙_}
+-- The root and the path of a code that passes, as they are written: the way up from its entries.
+use mathlib.Core.Path.{_≡_, refl, sym, ap, _∙_, subst}
 use mathlib.Core.List.{List, _++_}
 use Prim.Native.Nat.{ℕ, _+_, _-_, _≤_}
 use native.Mathlib.Omega.{arith}
 use native.Mathlib.Nat.{zero-add}
-use lib.ListN.{length, take, drop, length-append, length-take, length-drop, take-append-drop}
-use lib.Seq.{paste, take-at, drop-at, take-all}
-use Rattle.dimension.specs.Sizes.{codeLength, boxDepth}
+use lib.ListN.{length, take, drop, length-drop, take-append-drop}
+use lib.Seq.{paste, take-all}
+use Rattle.dimension.specs.Sizes.{codeLength, splitPlace, boxDepth}
 use Rattle.bisection.specs.Codes.{dimensionOf, depthOf, entriesOf, orthantsOf, partsOf}
 use Rattle.bisection.specs.Refusals.{done, codeRefusal}
 use Rattle.bisection.specs.Theorems.Paths.{pathTo, rootTo}
 use Rattle.bisection.specs.Theorems.CodePaths.{rootOf, pathOf}
-use Rattle.entries.specs.Passed.{Checked, checked}
-use Rattle.steps.specs.Climbs.{nameAbove, ClimbReady, Climbed}
+use Rattle.entries.specs.Passed.{checked}
+use Rattle.fours.specs.declared.Four.{Four}
+use Rattle.fours.specs.Fours.{four, noEntries}
+use Rattle.fours.specs.Laws.{held-front}
+use Rattle.steps.specs.Relatives.{code-passes, code-size, code-axes, code-held}
+use Rattle.steps.specs.Climbs.{nameAbove, ClimbReady, Climbed, Rising, rise-none, rise-done}
 
 -- what they are written from, and what stands in the buffers then
 pub record PathReady (code : List ℕ) (d D : ℕ) (root path : List ℕ) : Type 0 where
@@ -26,75 +30,56 @@ pub record PathStands (code : List ℕ) (d D : ℕ) (root path root' path' : Lis
   pub root-written : root' ≡ rootOf code ++ drop d root
   pub path-written : path' ≡ pathOf code ++ drop D path
 
-module _ {code : List ℕ} {d D : ℕ} {root path : List ℕ} (r : PathReady code d D root path) where
-  k : Checked code
-  k = checked code (r .passes)
+-- the way up from the entries of a code that passes
+module _ (code : List ℕ) {d D : ℕ} (p : codeRefusal code ≡ done) (ax : d ≡ dimensionOf code) (dp : D ≡ depthOf code) {from : Four} (f : four from ≡ paste noEntries 0 (drop 2 code) d) where
+  range : (2 ≤ d) × (d ≤ 4) × (2 + d ≤ length code)
+  range = code-axes code p ax dp refl
 
-  size : length code ≡ codeLength d D
-  size = rw (r .axes, r .depth) (k .size)
-
-  -- n is the number of axes as the code has it
-  pub path-copied : {n : ℕ} → n ≡ d → (2 + n ≤ length code) × (0 + n ≤ length root)
-  unfolding codeLength
-  path-copied e = (omega (arith, size), omega (arith, r .root-room))
-
-  -- the buffer with the entries
-  start : List ℕ
-  start = paste root 0 (drop 2 code) d
-
-  entries-size : length (take d (drop 2 code)) ≡ d
-  entries-size = simp (length-take, length-drop) (omega (arith, path-copied refl))
-
-  start-is : start ≡ take d (drop 2 code) ++ drop d root
-  unfolding start
-  start-is = rw (zero-add d) refl
-
-  start-size : length start ≡ length root
-  start-size = rw start-is (length-append (take d (drop 2 code)) (drop d root) ∙ rw (entries-size, length-drop d root) (omega (arith, r .root-room)))
-
-  name-is : nameAbove d D code start ≡ partsOf code
-  unfolding nameAbove partsOf entriesOf orthantsOf
-  name-is = λ i. record { entries = first i; orthants = second i }
+  name-is : nameAbove d D code (four from) ≡ partsOf code
+  unfolding nameAbove partsOf orthantsOf
+  name-is = λ i. record { entries = held-front (code-held code p ax dp refl f) i; orthants = second i }
     where
-      first : take d start ≡ take (dimensionOf code) (drop 2 code)
-      first = rw start-is (take-at (take d (drop 2 code)) (drop d root) d entries-size) ∙ ap (λ (n : ℕ). take n (drop 2 code)) (r .axes)
-
       second : take (boxDepth d D) (drop (2 + d) code) ≡ drop (2 + dimensionOf code) code
-      second = take-all (boxDepth d D) (drop (2 + d) code) (rw (length-drop (2 + d) code) (unfold codeLength in omega (arith, size)))
-          ∙ ap (λ (n : ℕ). drop (2 + n) code) (r .axes)
+      second = take-all (boxDepth d D) (drop (2 + d) code) (rw (length-drop (2 + d) code) (unfold codeLength in omega (arith, code-size code p ax dp)))
+          ∙ ap (λ (n : ℕ). drop (2 + n) code) ax
 
-  ready : ClimbReady d D code start path
-  ready = record {
-    range = rw (r .axes) (k .range);
-    size = omega (arith, size);
-    axes = omega (arith, start-size, r .root-room);
-    depth = r .path-room;
-    passes = rw (name-is, r .axes, r .depth) (k .good .passes);
+  pub up-ready : (path : List ℕ) → D ≤ length path → ClimbReady d D code (four from) path
+  up-ready path room = record {
+    range = rw ax (checked code p .range);
+    size = omega (arith, code-size code p ax dp);
+    axes = range .1;
+    depth = room;
+    passes = rw name-is (code-passes code p ax dp);
   }
 
-  pub path-ready : {above : List ℕ} {n : ℕ} → n ≡ d → above ≡ paste root 0 (drop 2 code) n → ClimbReady d D code above path
-  unfolding start
-  path-ready q e = rw (e, q) ready
+  module _ {path root' path' : List ℕ} (w : Climbed d D code 0 (four from) path root' path') where
+    pub up-root : take d root' ≡ rootOf code
+    unfolding rootTo nameAbove rootOf
+    up-root = w .the-root ∙ rw (name-is, ax, dp) refl
 
-  stands : {root' path' : List ℕ} → Climbed d D code 0 start path root' path' → PathStands code d D root path root' path'
-  stands {root'} {path'} w = record {
-    root-written = sym (take-append-drop d root') ∙ rw (first, w .root-rest, behind) refl;
-    path-written = sym (take-append-drop D path') ∙ rw (second, w .path-rest) refl;
-  }
-    where
-      first : take d root' ≡ rootOf code
-      first = unfold rootTo nameAbove rootOf in (w .the-root ∙ rw (name-is, r .axes, r .depth) refl)
+    pub up-path : path' ≡ pathOf code ++ drop D path
+    up-path = sym (take-append-drop D path') ∙ rw (second, w .path-rest) refl
+      where
+        whole : D - 0 ≡ D
+        whole = omega arith
 
-      whole : D - 0 ≡ D
-      whole = omega arith
+        second : take D path' ≡ pathOf code
+        second = ap (λ (n : ℕ). take n path') (sym whole) ∙ unfold pathTo nameAbove pathOf in (w .the-path ∙ rw (name-is, ax, dp) refl)
 
-      second : take D path' ≡ pathOf code
-      second = ap (λ (n : ℕ). take n path') (sym whole) ∙ unfold pathTo nameAbove pathOf in (w .the-path ∙ rw (name-is, r .axes, r .depth) refl)
+-- as it is written: n is the number of axes as the code has it
+module _ {code : List ℕ} {d D : ℕ} {root path : List ℕ} (r : PathReady code d D root path) {n : ℕ} (e : n ≡ d) where
+  pub path-entries : (2 ≤ n) × (n ≤ 4) × (2 + n ≤ length code)
+  path-entries = code-axes code (r .passes) (r .axes) (r .depth) e
 
-      behind : drop d start ≡ drop d root
-      behind = rw start-is (drop-at (take d (drop 2 code)) (drop d root) d entries-size)
+  pub path-room : (2 ≤ n) × (n ≤ 4) × (0 + n ≤ length root)
+  path-room = (path-entries .0, path-entries .1, omega (arith, r .root-room))
 
-  pub path-stands : {above root' path' : List ℕ} {n : ℕ} → n ≡ d → above ≡ paste root 0 (drop 2 code) n → Climbed d D code 0 above path root' path'
-      → PathStands code d D root path root' path'
-  unfolding start
-  path-stands q e w = stands (rw (e, q) at w)
+  module _ {from : Four} (f : four from ≡ paste noEntries 0 (drop 2 code) n) where
+    pub path-rises : {k boxes : ℕ} → k ≡ splitPlace d D → boxes ≡ boxDepth d D → Rising n D code (four from) path D k boxes (four from) path
+    path-rises g h = rise-none (up-ready code (r .passes) (e ∙ r .axes) (r .depth) f path (r .path-room)) (rw e g) (rw e h)
+
+    pub path-stands : {t k boxes : ℕ} {root' path' out : List ℕ} → Rising n D code (four from) path t k boxes root' path' → t ≤ 0 → out ≡ paste root 0 root' n → PathStands code d D root path out path'
+    path-stands i z w = record {
+      root-written = w ∙ rw (zero-add n, up-root code (r .passes) (e ∙ r .axes) (r .depth) f (rise-done i z), e) refl;
+      path-written = up-path code (r .passes) (e ∙ r .axes) (r .depth) f (rise-done i z);
+    }

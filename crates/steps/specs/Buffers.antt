@@ -1,21 +1,14 @@
--- Entries in a buffer: what a turn and the way back do to it, place by place, and the orthant of entries.
+-- Entries in a buffer: what a turn and the way back do to it, place by place.
 use mathlib.Core.Path.{_≡_, refl, sym, ap, _∙_, subst}
-use mathlib.Core.Bool.{true, false}
 use mathlib.Core.List.{List, _++_}
-use mathlib.Core.Logic.{_≢_}
-use Prim.Native.Nat.{ℕ, suc, _+_, _-_, _^_, _≤_, _<_}
+use Prim.Native.Nat.{ℕ, suc, _+_, _-_, _≤_, _<_}
 use native.Mathlib.Omega.{arith}
 use native.Mathlib.Numerals.{add-one}
 use native.Mathlib.Decide.{decLt, ℕ-discrete}
-use lib.Bits.{or-lt}
-use lib.Pow.{pow-pos, pow-lt}
 use lib.ListN.{length, getD, take, drop, set, length-take, length-drop, length-append, length-set, List·getD-append}
 use lib.Seq.{getD-take, getD-drop, getD-append-add, getD-set-same, getD-set-other, ext-getD}
-use borrow.Author.Tests.{eq-eqb, ne-eqb}
-use Rattle.bisection.specs.Codes.{axis, minus, negated, turned, high, orthant}
-use Rattle.bisection.specs.Theorems.Entries.{Signed, turned-before, turned-at, turned-past, turned-length, unturned, unturned-moved, unturned-past, unturned-length}
-use Rattle.bisection.specs.Theorems.Passing.{orthant-only}
-use Rattle.entries.specs.Masks.{raised, raised-high, high-none}
+use Rattle.bisection.specs.Codes.{negated, turned, high}
+use Rattle.bisection.specs.Theorems.Entries.{turned-before, turned-at, turned-past, turned-length, unturned, unturned-moved, unturned-past, unturned-length}
 
 -- a change to what begins at a place
 unfoldable pub atPlace : ℕ → (List ℕ → List ℕ) → List ℕ → List ℕ
@@ -162,47 +155,3 @@ module _ (l : List ℕ) (at n : ℕ) (h : at + n < length l) where
 
   pub unturning-all : (i : ℕ) (buf : List ℕ) (moved : ℕ) → n < i → i ≤ n + 1 → Unturning l at n i buf moved → buf ≡ atPlace at (unturned n) l
   unturning-all i buf moved u w t = filled-all (t .filled) (unturn-kept .size) (unturn-kept .below) (λ p q. unturn-kept .above p (omega arith))
-
--- the orthant mask under way: entries before i are marked, the others not yet
-pub record Marking (d : ℕ) (es : List ℕ) (i mask : ℕ) : Type 0 where
-  pub fits : mask < 2 ^ d
-  pub marked : (j : ℕ) → j < i → j < d → high mask (axis (getD es j 0)) ≡ minus (getD es j 0)
-  pub free : (j : ℕ) → i ≤ j → j < d → high mask (axis (getD es j 0)) ≡ false
-
-pub marking-none : (d : ℕ) (es : List ℕ) → Marking d es 0 0
-marking-none d es = record { fits = pow-pos d; marked = λ j l h. absurd (omega arith); free = λ j l h. high-none (axis (getD es j 0)) }
-
--- the entry at place p, the next one or, past the last, one that is marked
-module _ {d : ℕ} {es : List ℕ} (s : Signed d es) {i mask : ℕ} (k : Marking d es i mask) (p : ℕ) (h : p < d) (here : i < d → p ≡ i) where
-  pub marking-plus : minus (getD es p 0) ≡ false → Marking d es (i + 1) mask
-  marking-plus e = record { fits = k .fits; marked = λ j l q. go j l q (decLt j i); free = λ j l q. k .free j (omega arith) q }
-    where
-      go : (j : ℕ) → j < i + 1 → j < d → Dec (j < i) → high mask (axis (getD es j 0)) ≡ minus (getD es j 0)
-      go j l q (yes w) = k .marked j w q
-      go j l q (no w) = subst (λ (x : ℕ). high mask (axis (getD es x 0)) ≡ minus (getD es x 0)) now (k .free p (omega (arith, now)) h ∙ sym e)
-        where
-          now : p ≡ j
-          now = here (omega arith) ∙ omega arith
-
-  pub marking-minus : minus (getD es p 0) ≡ true → Marking d es (i + 1) (raised mask (axis (getD es p 0)))
-  marking-minus e = record { fits = fits; marked = λ j l q. go j l q (ℕ-discrete j p); free = λ j l q. other j q (omega (arith, here (omega arith))) ∙ k .free j (omega arith) q }
-    where
-      a : ℕ
-      a = axis (getD es p 0)
-
-      fits : raised mask a < 2 ^ d
-      fits = unfold raised in or-lt d mask (2 ^ (a - 1)) (k .fits) (pow-lt {i = a - 1} {j = d} (omega (arith, s .low p h, s .high p h)))
-
-      other : (j : ℕ) → j < d → j ≢ p → high (raised mask a) (axis (getD es j 0)) ≡ high mask (axis (getD es j 0))
-      other j q n = rw (raised-high mask a (axis (getD es j 0)) (s .low p h) (s .low j q), ne-eqb (axis (getD es j 0)) a (λ w. n (s .apart j p q h w))) refl
-
-      go : (j : ℕ) → j < i + 1 → j < d → Dec (j ≡ p) → high (raised mask a) (axis (getD es j 0)) ≡ minus (getD es j 0)
-      go j l q (yes w) = rw (w, raised-high mask a a (s .low p h) (s .low p h), eq-eqb a a refl) (sym e)
-      go j l q (no w) = other j q w ∙ k .marked j (before (decLt i d)) q
-        where
-          before : Dec (i < d) → j < i
-          before (yes u) = omega (arith, here u)
-          before (no u) = omega arith
-
-pub marking-all : {d : ℕ} {es : List ℕ} → Signed d es → {i mask : ℕ} → Marking d es i mask → d ≤ i → mask ≡ orthant es
-marking-all s {i} {mask} k h = orthant-only s mask (k .fits) (λ j l. sym (k .marked j (omega arith) l))

@@ -1,25 +1,22 @@
--- A path walked up in two buffers, the deepest step first.
+-- A path walked up with the entries by value, the deepest step first.
 use mathlib.Core.Path.{_≡_, refl, sym, ap, _∙_, subst}
 use mathlib.Core.List.{List, [], _∷_, _++_, append-assoc}
 use Prim.Native.Nat.{ℕ, suc, _+_, _-_, _≤_, _<_}
 use native.Mathlib.Omega.{arith}
-use native.Mathlib.Nat.{zero-add}
-use lib.ListN.{length, getD, take, drop, set, length-take, length-drop, length-append, length-set, take-append-drop}
-use lib.Seq.{take-take, take-at, drop-at, drop-cons, drop-set-lt, getD-set-same, getD-take}
+use lib.ListN.{length, getD, take, drop, set, length-set}
+use lib.Seq.{take-take, drop-cons, drop-set-lt, getD-set-same}
 use Rattle.dimension.specs.Sizes.{codeLength, splitPlace, boxDepth}
 use Rattle.dimension.specs.Laws.{Dimension, split-range}
-use Rattle.bisection.specs.Codes.{axis, high, Name}
-use Rattle.bisection.specs.Refusals.{ownMinus}
-use Rattle.bisection.specs.Theorems.Passing.{Passes, fewer, lastStep, unstepped, parentName, parent-passes}
+use Rattle.bisection.specs.Codes.{axis, Name}
+use Rattle.bisection.specs.Theorems.Passing.{Passes, fewer, lastStep, parentName, parent-passes}
 use Rattle.bisection.specs.Theorems.Paths.{pathTo, rootTo, path-suc}
-use Rattle.steps.specs.Buffers.{atPlace}
-use Rattle.steps.specs.Steps.{StepsBack}
 use Rattle.entries.specs.Walks.{ownByte}
-use Rattle.steps.specs.Relatives.{box-grows}
-use Rattle.steps.specs.Parents.{unstepped-append}
-use Rattle.steps.specs.Descents.{length-mono}
+use Rattle.fours.specs.Fours.{BackIs}
+use Rattle.steps.specs.Relatives.{box-grows, length-mono}
+use Rattle.steps.specs.Parents.{told-ready, told-step, told-size, told-entries}
+use Rattle.steps.specs.Above.{BoxesReady, boxesAbove, placeAbove, above-ready, go-boxes, go-place, own-by, boxes-room}
 
--- the name at depth t: entries from the buffer, orthants from the code
+-- the name at depth t: the first d of the entries, orthants from the code
 unfoldable pub nameAbove : ℕ → ℕ → List ℕ → List ℕ → Name
 nameAbove d t code root = record { entries = take d root; orthants = take (boxDepth d t) (drop (2 + d) code) }
 
@@ -31,154 +28,149 @@ pub record ClimbReady (d D : ℕ) (code root path : List ℕ) : Type 0 where
   pub passes : Passes d D (nameAbove d D code root)
 
 -- at depth t on the way up from depth D: the rest of the way gives the same root, and the same path with the steps
--- already written; what is past the answers is as it was
+-- already written; what is past the path is as it was
 pub record Climbed (d D : ℕ) (code : List ℕ) (t : ℕ) (root path root' path' : List ℕ) : Type 0 where
   pub root-size : length root' ≡ length root
   pub path-size : length path' ≡ length path
   pub passes : Passes d t (nameAbove d t code root')
   pub the-root : rootTo d t (nameAbove d t code root') ≡ rootTo d D (nameAbove d D code root)
   pub the-path : pathTo d t (nameAbove d t code root') ++ take (D - t) (drop t path') ≡ pathTo d D (nameAbove d D code root)
-  pub root-rest : drop d root' ≡ drop d root
   pub path-rest : drop D path' ≡ drop D path
 
--- the own byte and the orthants one box up
-module _ {d D : ℕ} {code root path : List ℕ} (k : ClimbReady d D code root path) where
+climb-none : {d D : ℕ} {code root path : List ℕ} → ClimbReady d D code root path → Climbed d D code D root path root path
+climb-none {d} {D} {code} {root} k = record {
+  root-size = refl;
+  path-size = refl;
+  passes = k .passes;
+  the-root = refl;
+  the-path = rw less (append-nil (pathTo d D (nameAbove d D code root)));
+  path-rest = refl;
+}
+  where
+    less : D - D ≡ 0
+    less = omega arith
+
+    append-nil : (l : List ℕ) → l ++ [] ≡ l
+    append-nil [] = refl
+    append-nil (x ∷ l) = ap (λ (r : List ℕ). x ∷ r) (append-nil l)
+
+-- one step up
+module _ {d D : ℕ} {code root path : List ℕ} (k : ClimbReady d D code root path) {t : ℕ} {root' path' : List ℕ} (c : Climbed d D code (suc t) root path root' path') (deep : suc t ≤ D)
+    {n : ℕ} (e : n ≡ splitPlace d t - 1) where
   d0 : 0 < d
   d0 = omega (arith, k .range .two)
 
-  small : d < 128
-  small = omega (arith, k .range .few)
+  m : Name
+  m = nameAbove d (suc t) code root'
 
-  pub climb-none : Climbed d D code D root path root path
-  climb-none = record {
-    root-size = refl;
-    path-size = refl;
-    passes = k .passes;
-    the-root = refl;
-    the-path = rw less (append-nil (pathTo d D (nameAbove d D code root)));
-    root-rest = refl;
-    path-rest = refl;
-  }
+  long : d ≤ length root'
+  long = omega (arith, k .axes, c .root-size)
+
+  first : take d root' ≡ m .entries
+  unfolding m nameAbove
+  first = refl
+
+  passes : Passes d (suc t) m
+  unfolding m
+  passes = c .passes
+
+  climb-ready : (n < length root') × (1 ≤ axis (getD root' n 0)) × (axis (getD root' n 0) ≤ 8)
+  climb-ready = told-ready d0 (k .range .few) m passes root' first long e
+
+  module _ {own b : ℕ} {r : List ℕ} (o : own ≡ ownByte (take (boxDepth d t) (drop (2 + d) code))) (s : BackIs n own root' b r) where
+    fewer-is : fewer d t (m .orthants) ≡ take (boxDepth d t) (drop (2 + d) code)
+    unfolding fewer m nameAbove
+    fewer-is = take-take (boxDepth d t) (boxDepth d (suc t)) (drop (2 + d) code) (box-grows d t d0)
+
+    own-is : own ≡ ownByte (fewer d t (m .orthants))
+    own-is = rw fewer-is o
+
+    step-is : b ≡ lastStep d t m
+    step-is = told-step d0 (k .range .few) m passes root' first long e own-is s
+
+    name-is : nameAbove d t code r ≡ parentName d t m
+    unfolding nameAbove
+    name-is = λ i. record { entries = told-entries d0 (k .range .few) m passes root' first long e own-is s i; orthants = second i }
+      where
+        second : take (boxDepth d t) (drop (2 + d) code) ≡ (parentName d t m) .orthants
+        second = unfold parentName in sym fewer-is
+
+    path-is : t < length path' → take (D - t) (drop t (set path' t b)) ≡ b ∷ take (D - suc t) (drop (suc t) path')
+    path-is l = rw (drop-cons (set path' t b) t 0 (rw (length-set path' t b) l), getD-set-same path' t b 0 l, drop-set-lt (suc t) path' t b (omega arith), less) refl
+      where
+        less : D - t ≡ suc (D - suc t)
+        less = omega arith
+
+    climb-next : Climbed d D code t root path r (set path' t b)
+    climb-next = record {
+      root-size = told-size d0 (k .range .few) m passes root' first long e own-is s ∙ c .root-size;
+      path-size = length-set path' t b ∙ c .path-size;
+      passes = rw name-is (parent-passes d t d0 (omega (arith, k .range .few)) m passes);
+      the-root = unfold rootTo in (ap (rootTo d t) name-is ∙ unfold m in c .the-root);
+      the-path = rw (name-is, path-is (omega (arith, c .path-size, k .depth))) (sym (append-assoc (pathTo d t (parentName d t m)) (b ∷ []) (take (D - suc t) (drop (suc t) path')))
+          ∙ ap (λ (l : List ℕ). l ++ take (D - suc t) (drop (suc t) path')) (ap (λ (x : ℕ). pathTo d t (parentName d t m) ++ x ∷ []) step-is ∙ sym (path-suc d t m)) ∙ unfold m in c .the-path);
+      path-rest = drop-set-lt D path' t b (omega arith) ∙ c .path-rest;
+    }
+
+-- a loop on the way up, with the split place and the boxes of its depth
+pub record Rising (d D : ℕ) (code root path : List ℕ) (t k boxes : ℕ) (root' path' : List ℕ) : Type 0 where
+  pub ready : ClimbReady d D code root path
+  pub deep : t ≤ D
+  pub place : k ≡ splitPlace d t
+  pub count : boxes ≡ boxDepth d t
+  pub climbed : Climbed d D code t root path root' path'
+
+pub rise-none : {d D k boxes : ℕ} {code root path : List ℕ} → ClimbReady d D code root path → k ≡ splitPlace d D → boxes ≡ boxDepth d D → Rising d D code root path D k boxes root path
+rise-none r e f = record { ready = r; deep = omega arith; place = e; count = f; climbed = climb-none r }
+
+-- what its calls ask, and the next turn
+module _ {d D : ℕ} {code root path : List ℕ} {t k boxes : ℕ} {root' path' : List ℕ} (i : Rising d D code root path t k boxes root' path') (pos : 0 < t) where
+  some : 0 < d
+  some = omega (arith, i .ready .range .two)
+
+  under : Climbed d D code (suc (t - 1)) root path root' path'
+  under = subst (λ (j : ℕ). Climbed d D code j root path root' path') more (i .climbed)
     where
-      less : D - D ≡ 0
-      less = omega arith
+      more : t ≡ suc (t - 1)
+      more = omega arith
 
-      append-nil : (l : List ℕ) → l ++ [] ≡ l
-      append-nil [] = refl
-      append-nil (x ∷ l) = ap (λ (r : List ℕ). x ∷ r) (append-nil l)
+  pub rise-boxes : BoxesReady boxes k d
+  rise-boxes = above-ready some pos (i .place) (i .count)
 
-  module _ {t : ℕ} {root' path' : List ℕ} (c : Climbed d D code (suc t) root path root' path') (deep : suc t ≤ D) where
-    n : ℕ
-    n = splitPlace d t - 1
+  pub rise-place : k ≤ 8
+  rise-place = omega (arith, i .place, split-range d t some, i .ready .range .few)
 
-    n-in : n < d
-    unfolding n
-    n-in = omega (arith, split-range d t d0)
+  pub rise-write : t - 1 < length path'
+  rise-write = omega (arith, i .deep, i .ready .depth, i .climbed .path-size)
 
-    pub climb-split : 1 ≤ splitPlace d t
-    climb-split = split-range d t d0 .0
+  pub rise-room : {q : ℕ} → q ≡ boxesAbove boxes k d → 2 + d + q ≤ length code
+  rise-room u = omega (arith, boxes-room d (t - 1) code (omega (arith, i .ready .size, length-mono d some (t - 1) D (omega (arith, i .deep)))), go-boxes some pos (i .place) (i .count) u)
 
-    pub climb-size : codeLength d t ≤ length code
-    climb-size = omega (arith, k .size, length-mono d d0 t D (omega arith))
+  module _ {j : ℕ} (v : j ≡ placeAbove k d) where
+    above : j ≡ splitPlace d (t - 1)
+    above = go-place some pos (i .place) (i .count) v
 
-    m : Name
-    m = nameAbove d (suc t) code root'
+    pub rise-some : 1 ≤ j
+    rise-some = omega (arith, above, split-range d (t - 1) some)
 
-    es-size : length (take d root') ≡ d
-    es-size = simp length-take (omega (arith, k .axes, c .root-size))
+    pub rise-ready : (j - 1 < length root') × (1 ≤ axis (getD root' (j - 1) 0)) × (axis (getD root' (j - 1) 0) ≤ 8)
+    rise-ready = climb-ready (i .ready) under (omega (arith, i .deep)) (ap (λ (x : ℕ). x - 1) above)
 
-    boxes : boxDepth d t ≤ boxDepth d (suc t)
-    boxes = box-grows d t d0
+    pub rise-next : {q own b : ℕ} {r : List ℕ} → q ≡ boxesAbove boxes k d → own ≡ ownByte (take q (drop (2 + d) code)) → BackIs (j - 1) own root' b r
+        → Rising d D code root path (t - 1) j q r (set path' (t - 1) b)
+    rise-next {q} u o s = record {
+      ready = i .ready;
+      deep = omega (arith, i .deep);
+      place = above;
+      count = boxed;
+      climbed = climb-next (i .ready) under (omega (arith, i .deep)) (ap (λ (x : ℕ). x - 1) above) (own-by code d q (boxDepth d (t - 1)) boxed o) s;
+    }
+      where
+        boxed : q ≡ boxDepth d (t - 1)
+        boxed = go-boxes some pos (i .place) (i .count) u
 
-    -- entry n of the buffer is entry n of the name
-    entry-is : (p : ℕ) → p ≡ n → getD root' (0 + p) 0 ≡ getD (take d root') n 0
-    entry-is p e = rw (zero-add p, e) (sym (getD-take d root' n 0 n-in))
-
-    pub climb-ready : (p : ℕ) → p ≡ splitPlace d t - 1 → (0 + p < length root') × (1 ≤ axis (getD root' (0 + p) 0)) × (axis (getD root' (0 + p) 0) ≤ 8)
-    unfolding n nameAbove
-    climb-ready p e = (omega (arith, n-in, k .axes, c .root-size), rw (entry-is p e) (c .passes .signed .low n n-in), rw (entry-is p e) (omega (arith, c .passes .signed .high n n-in, k .range .few)))
-
-    module _ (p own b : ℕ) (r : List ℕ) (e : p ≡ n) (o : own ≡ ownByte (take (boxDepth d t) (drop (2 + d) code))) (s : StepsBack 0 p own root' b r) where
-      fewer-is : fewer d t (m .orthants) ≡ take (boxDepth d t) (drop (2 + d) code)
-      unfolding fewer m nameAbove
-      fewer-is = take-take (boxDepth d t) (boxDepth d (suc t)) (drop (2 + d) code) boxes
-
-      step-is : b ≡ lastStep d t m
-      unfolding lastStep ownMinus m
-      step-is = s .step ∙ rw (entry-is p e, o) (unfold nameAbove n in rw fewer-is refl)
-
-      entries : r ≡ unstepped b n (take d root') ++ drop d root'
-      unfolding atPlace
-      entries = s .entries ∙ rw e (ap (unstepped b n) (sym (take-append-drop d root')) ∙ unstepped-append b n (take d root') (drop d root') (omega (arith, es-size, n-in)))
-
-      parent : Passes d t (parentName d t m)
-      unfolding m
-      parent = parent-passes d t d0 small (nameAbove d (suc t) code root') (c .passes)
-
-      es' : List ℕ
-      es' = unstepped b n (take d root')
-
-      entries-as : es' ≡ (parentName d t m) .entries
-      unfolding parentName m es' nameAbove n
-      entries-as = ap (λ (x : ℕ). unstepped x (splitPlace d t - 1) (take d root')) step-is
-
-      es'-size : length es' ≡ d
-      es'-size = ap length entries-as ∙ parent .signed .size
-
-      name-is : nameAbove d t code r ≡ parentName d t m
-      unfolding nameAbove
-      name-is = λ i. record { entries = first i; orthants = second i }
-        where
-          first : take d r ≡ (parentName d t m) .entries
-          first = rw entries (take-at (unstepped b n (take d root')) (drop d root') d (unfold es' in es'-size) ∙ unfold es' in entries-as)
-
-          second : take (boxDepth d t) (drop (2 + d) code) ≡ (parentName d t m) .orthants
-          second = unfold parentName in sym fewer-is
-
-      path-is : (q : List ℕ) → t < length q → take (D - t) (drop t (set q t b)) ≡ b ∷ take (D - suc t) (drop (suc t) q)
-      path-is q l = rw (drop-cons (set q t b) t 0 (rw (length-set q t b) l), getD-set-same q t b 0 l, drop-set-lt (suc t) q t b (omega arith), less) refl
-        where
-          less : D - t ≡ suc (D - suc t)
-          less = omega arith
-
-      climbed : Climbed d D code t root path r (set path' t b)
-      unfolding es'
-      climbed = record {
-        root-size = ap length entries ∙ length-append es' (drop d root') ∙ rw (es'-size, length-drop d root') (omega (arith, k .axes, c .root-size));
-        path-size = length-set path' t b ∙ c .path-size;
-        passes = rw name-is parent;
-        the-root = unfold rootTo in (ap (rootTo d t) name-is ∙ unfold m in c .the-root);
-        the-path = rw (name-is, path-is path' (omega (arith, c .path-size, k .depth))) (sym (append-assoc (pathTo d t (parentName d t m)) (b ∷ []) (take (D - suc t) (drop (suc t) path')))
-            ∙ ap (λ (l : List ℕ). l ++ take (D - suc t) (drop (suc t) path')) (ap (λ (x : ℕ). pathTo d t (parentName d t m) ++ x ∷ []) step-is ∙ sym (path-suc d t m)) ∙ unfold m in c .the-path);
-        root-rest = rw entries (drop-at es' (drop d root') d es'-size) ∙ c .root-rest;
-        path-rest = drop-set-lt D path' t b (omega arith) ∙ c .path-rest;
-      }
-
-    pub climb-next : (p own b : ℕ) (r : List ℕ) → p ≡ splitPlace d t - 1 → own ≡ ownByte (take (boxDepth d t) (drop (2 + d) code)) → StepsBack 0 p own root' b r
-        → Climbed d D code t root path r (set path' t b)
-    unfolding n
-    climb-next p own b r e o s = climbed p own b r e o s
-
--- the same from depth t to t - 1
-module _ {d D : ℕ} {code root path : List ℕ} (k : ClimbReady d D code root path) {t : ℕ} {root' path' : List ℕ} (c : Climbed d D code t root path root' path') (pos : 0 < t) (deep : t ≤ D) where
-  more : t ≡ suc (t - 1)
-  more = omega arith
-
-  c' : Climbed d D code (suc (t - 1)) root path root' path'
-  c' = subst (λ (j : ℕ). Climbed d D code j root path root' path') more c
-
-  deep' : suc (t - 1) ≤ D
-  deep' = omega arith
-
-  pub up-split : 1 ≤ splitPlace d (t - 1)
-  up-split = climb-split k c' deep'
-
-  pub up-size : codeLength d (t - 1) ≤ length code
-  up-size = climb-size k c' deep'
-
-  pub up-ready : (p : ℕ) → p ≡ splitPlace d (t - 1) - 1 → (0 + p < length root') × (1 ≤ axis (getD root' (0 + p) 0)) × (axis (getD root' (0 + p) 0) ≤ 8)
-  up-ready = climb-ready k c' deep'
-
-  pub up-next : (p own b : ℕ) (r : List ℕ) → p ≡ splitPlace d (t - 1) - 1 → own ≡ ownByte (take (boxDepth d (t - 1)) (drop (2 + d) code)) → StepsBack 0 p own root' b r
-      → Climbed d D code (t - 1) root path r (set path' (t - 1) b)
-  up-next = climb-next k c' deep'
+pub rise-done : {d D t k boxes : ℕ} {code root path root' path' : List ℕ} → Rising d D code root path t k boxes root' path' → t ≤ 0 → Climbed d D code 0 root path root' path'
+rise-done {d} {D} {t} {code = code} {root = root} {path = path} {root' = root'} {path' = path'} i z = subst (λ (x : ℕ). Climbed d D code x root path root' path') none (i .climbed)
+  where
+    none : t ≡ 0
+    none = omega arith

@@ -1,5 +1,5 @@
 -- Steps of the bisection on codes in lent buffers. All of it is checked, none is believed.
--- Entries in a buffer; one step on and one step back.
+-- Bytes in a buffer; an orthant put, entries written.
 pub mod Buffers
 pub mod Copying
 pub mod Steps

@@ -1,22 +1,25 @@
--- The parent as the code writes it: the front of the code with the last step taken back.
+-- The step that a name's entries tell, taken back by value; and the parent as the code writes it: the front of the code with the
+-- entries one step up.
 use mathlib.Core.Path.{_≡_, refl, sym, ap, _∙_}
-use mathlib.Core.List.{List, _∷_, _++_, append-assoc}
-use Prim.Native.Nat.{ℕ, zero, suc, _+_, _-_, _≤_, _<_}
+use mathlib.Core.List.{List, [], _∷_, _++_, append-assoc}
+use Prim.Native.Nat.{ℕ, zero, suc, _+_, _-_, _*_, _≤_, _<_}
 use native.Mathlib.Omega.{arith}
-use lib.ListN.{length, getD, take, drop, set, length-append, length-take, length-drop, length-set, List·getD-append}
-use lib.Seq.{take-append-le, take-append-add, drop-append-le}
+use lib.ListN.{length, getD, take, drop, set, length-append, length-take, length-drop, take-append-drop}
+use lib.Seq.{paste, take-at, getD-take, take-append-add}
 use Rattle.dimension.specs.Sizes.{codeLength, longestOfAll, splitPlace, boxDepth}
-use Rattle.dimension.specs.Laws.{split-range}
-use Rattle.bisection.specs.Codes.{axis, negated, high, Name, bytes, dimensionOf, depthOf, orthantsOf, partsOf}
+use Rattle.dimension.specs.Laws.{split-range, split-is}
+use Rattle.bisection.specs.Codes.{axis, high, Name, bytes, dimensionOf, depthOf, orthantsOf, partsOf}
 use Rattle.bisection.specs.Refusals.{ownMinus}
-use Rattle.bisection.specs.Theorems.Entries.{unturned-append}
-use Rattle.bisection.specs.Theorems.Passing.{Passes, fewer, lastStep, unstepped, parentName}
+use Rattle.bisection.specs.Theorems.Entries.{unturned-append, unturned-length}
+use Rattle.bisection.specs.Theorems.Passing.{Passes, fewer, lastStep, unstepped, parentName, parent-passes}
 use Rattle.bisection.specs.Theorems.CodePaths.{parentCode}
-use Rattle.steps.specs.Buffers.{atPlace}
-use Rattle.steps.specs.Steps.{StepsBack}
 use Rattle.entries.specs.Walks.{ownByte}
-use Rattle.entries.specs.Passed.{code-few, Checked, checked}
-use Rattle.steps.specs.Relatives.{ParentReady, length-grows}
+use Rattle.entries.specs.Passed.{code-few, checked}
+use Rattle.fours.specs.declared.Four.{Four}
+use Rattle.fours.specs.Fours.{four, noEntries, Holds, BackIs}
+use Rattle.fours.specs.Laws.{held-front}
+use Rattle.steps.specs.Steps.{entries-over}
+use Rattle.steps.specs.Relatives.{ParentReady, length-grows, code-passes, code-size, code-is, code-axes, code-held}
 
 -- a turn back of the first entries goes no further
 pub unstepped-append : (b n : ℕ) (es rest : List ℕ) → n < length es → unstepped b n (es ++ rest) ≡ unstepped b n es ++ rest
@@ -24,131 +27,125 @@ unfolding unstepped
 unstepped-append zero n es rest h = refl
 unstepped-append (suc b) n es rest h = unturned-append n es rest h
 
-module _ {code out : List ℕ} {d D : ℕ} (r : ParentReady code d D out) where
-  k : Checked code
-  k = checked code (r .passes)
+unstepped-length : (b n : ℕ) (es : List ℕ) → n < length es → length (unstepped b n es) ≡ length es
+unfolding unstepped
+unstepped-length zero n es h = refl
+unstepped-length (suc b) n es h = unturned-length n es h
 
+-- the first d of the entries are those of a name that passes one step below depth t
+module _ {d t : ℕ} (d0 : 0 < d) (few : d ≤ 4) (m : Name) (p : Passes d (suc t) m) (es : List ℕ) (first : take d es ≡ m .entries) (long : d ≤ length es) {n : ℕ} (e : n ≡ splitPlace d t - 1) where
+  inside : n < d
+  inside = omega (arith, split-range d t d0)
+
+  at : getD es n 0 ≡ getD (m .entries) (splitPlace d t - 1) 0
+  at = sym (getD-take d es n 0 inside) ∙ rw (first, e) refl
+
+  pub told-ready : (n < length es) × (1 ≤ axis (getD es n 0)) × (axis (getD es n 0) ≤ 8)
+  told-ready = (omega (arith, inside), rw at (p .signed .low (splitPlace d t - 1) (omega (arith, inside))), rw at (omega (arith, p .signed .high (splitPlace d t - 1) (omega (arith, inside)))))
+
+  module _ {own b : ℕ} {r : List ℕ} (o : own ≡ ownByte (fewer d t (m .orthants))) (s : BackIs n own es b r) where
+    pub told-step : b ≡ lastStep d t m
+    unfolding lastStep ownMinus
+    told-step = s .step ∙ rw (at, o) refl
+
+    pub told-size : length r ≡ length es
+    told-size = ap length (s .entries) ∙ unstepped-length b n es (omega (arith, inside))
+
+    pub told-entries : take d r ≡ (parentName d t m) .entries
+    unfolding parentName
+    told-entries = ap (take d) (s .entries ∙ ap (unstepped b n) (sym (take-append-drop d es)) ∙ unstepped-append b n (take d es) (drop d es) size)
+        ∙ take-at (unstepped b n (take d es)) (drop d es) d (unstepped-length b n (take d es) size ∙ front)
+        ∙ rw (first, told-step, e) refl
+      where
+        front : length (take d es) ≡ d
+        front = ap length first ∙ p .signed .size
+
+        size : n < length (take d es)
+        size = omega (arith, front, inside)
+
+-- the parent, written over a copy of the front
+module _ {code out : List ℕ} {d D : ℕ} (r : ParentReady code d D out) where
   m : Name
   m = partsOf code
 
-  es : List ℕ
-  es = m .entries
-
-  os : List ℕ
-  os = m .orthants
-
-  n : ℕ
-  n = splitPlace d D - 1
-
-  d0 : 0 < d
-  d0 = omega (arith, r .axes, k .range .two)
-
-  n-in : n < d
-  unfolding n
-  n-in = omega (arith, split-range d D d0)
-
-  pub parent-split : 1 ≤ splitPlace d D
-  parent-split = split-range d D d0 .0
+  range : (2 ≤ d) × (d ≤ 4) × (2 + d ≤ length code)
+  range = code-axes code (r .passes) (r .axes) (r .depth) refl
 
   passes : Passes d (suc D) m
   unfolding m
-  passes = rw (r .axes, r .depth) (k .good .passes)
+  passes = code-passes code (r .passes) (r .axes) (r .depth)
 
-  size : length code ≡ codeLength d (suc D)
-  size = rw (r .axes, r .depth) (k .size)
+  whole : codeLength d D ≤ length code
+  whole = omega (arith, code-size code (r .passes) (r .axes) (r .depth), length-grows d D (omega (arith, range)))
 
-  pub parent-front : codeLength d D ≤ length code
-  parent-front = omega (arith, size, length-grows d D d0)
-
-  pub parent-four : 4 ≤ codeLength d D
-  unfolding codeLength
-  parent-four = omega (arith, r .axes, k .range .two)
-
-  pub parent-few : codeLength d D ≤ longestOfAll
-  parent-few = omega (arith, parent-front, code-few k)
-
-  pub parent-two : 2 ≤ length code
-  unfolding codeLength
-  parent-two = omega (arith, size)
-
-  pub parent-byte : getD code 1 0 - 1 ≡ D
+  pub parent-byte : 1 ≤ getD code 1 0
   unfolding depthOf
   parent-byte = omega (arith, r .depth)
 
-  is : code ≡ d ∷ suc D ∷ (es ++ os)
-  unfolding m es os
-  is = whole ∙ ap (λ (x : ℕ). x ∷ depthOf code ∷ ((partsOf code) .entries ++ (partsOf code) .orthants)) (sym (r .axes)) ∙ ap
-      (λ (y : ℕ). d ∷ y ∷ ((partsOf code) .entries ++ (partsOf code) .orthants)) (sym (r .depth))
-    where
-      whole : code ≡ dimensionOf code ∷ depthOf code ∷ ((partsOf code) .entries ++ (partsOf code) .orthants)
-      whole = unfold bytes in k .good .is
+  -- the number of axes and the boxes, as the code has them
+  module _ {n q : ℕ} (e : n ≡ d) (f : q ≡ boxDepth d D) where
+    counted : 2 + n + q ≡ codeLength d D
+    unfolding codeLength
+    counted = rw (e, f) refl
 
-  es-size : length es ≡ d
-  unfolding es
-  es-size = passes .signed .size
+    pub parent-own : 2 + n + q ≤ length code
+    parent-own = omega (arith, counted, whole)
 
-  cut : take (codeLength d D) code ≡ d ∷ suc D ∷ (es ++ take (boxDepth d D) os)
-  unfolding codeLength
-  cut = ap (take (2 + d + boxDepth d D)) is ∙ ap (λ (j : ℕ). take j (d ∷ suc D ∷ (es ++ os))) there ∙ ap (λ (l : List ℕ). d ∷ suc D ∷ l) (take-append-add es os (boxDepth d D))
-    where
-      there : 2 + d + boxDepth d D ≡ suc (suc (length es + boxDepth d D))
-      there = omega (arith, es-size)
+    pub parent-front : (4 ≤ 2 + n + q) × (2 + n + q ≤ longestOfAll) × (2 + n + q ≤ length code) × (2 + n + q ≤ length out)
+    parent-front = (omega (arith, range), omega (arith, counted, whole, code-few (checked code (r .passes))), parent-own, omega (arith, counted, r .room))
 
-  left : List ℕ
-  left = take (boxDepth d D) os ++ drop (codeLength d D) out
+    pub parent-entries : (2 ≤ n) × (n ≤ 4) × (2 + n ≤ length code)
+    parent-entries = code-axes code (r .passes) (r .axes) (r .depth) e
 
-  buffer : (j v : ℕ) → List ℕ
-  buffer j v = set (take j code ++ drop j out) 1 v
+    pub parent-over : {x : ℕ} → x ≡ length out → (2 ≤ n) × (n ≤ 4) × (2 + n ≤ x)
+    parent-over h = (omega (arith, range), omega (arith, range), omega (arith, counted, r .room))
 
-  buffer-is : (j v : ℕ) → j ≡ codeLength d D → buffer j v ≡ d ∷ v ∷ (es ++ left)
-  unfolding buffer left
-  buffer-is j v e = rw e (ap (λ (l : List ℕ). set l 1 v) (ap (λ (l : List ℕ). l ++ drop (codeLength d D) out) cut))
-      ∙ ap (λ (l : List ℕ). d ∷ v ∷ l) (append-assoc es (take (boxDepth d D) os) (drop (codeLength d D) out))
+    pub parent-some : 1 ≤ n - (D - n * q)
+    parent-some = rw (split-is d D n q e f) (split-range d D (omega (arith, range)) .0)
 
-  pub parent-size : (j : ℕ) → j ≡ codeLength d D → length (take j code ++ drop j out) ≡ length out
-  parent-size j e = rw e (length-append (take (codeLength d D) code) (drop (codeLength d D) out) ∙ simp (length-take, length-drop) (omega (arith, r .room, parent-front)))
+    module _ {from : Four} (h : four from ≡ paste noEntries 0 (drop 2 code) n) where
+      held : Holds d from (m .entries)
+      unfolding m
+      held = code-held code (r .passes) (r .axes) (r .depth) e h
 
-  -- entry n in the buffer
-  entry-is : (j v : ℕ) → j ≡ codeLength d D → (p : ℕ) → p ≡ n → getD (buffer j v) (2 + p) 0 ≡ getD es n 0
-  entry-is j v e p q = rw (buffer-is j v e, q) (ap (λ (i : ℕ). getD (d ∷ v ∷ (es ++ left)) i 0) two ∙ List·getD-append es left 0 n (omega (arith, es-size, n-in)))
-    where
-      two : 2 + n ≡ suc (suc n)
-      two = omega arith
+      place : n - (D - n * q) - 1 ≡ splitPlace d D - 1
+      place = ap (λ (k : ℕ). k - 1) (split-is d D n q e f)
 
-  pub parent-ready : (j v p : ℕ) → j ≡ codeLength d D → p ≡ splitPlace d D - 1
-      → (2 + p < length (set (take j code ++ drop j out) 1 v)) × (1 ≤ axis (getD (set (take j code ++ drop j out) 1 v) (2 + p) 0)) × (axis (getD (set (take j code ++ drop j out) 1 v) (2 + p) 0) ≤ 8)
-  unfolding buffer n
-  parent-ready j v p e q = (room, rw (entry-is j v e p q) (low .0), rw (entry-is j v e p q) (low .1))
-    where
-      room : 2 + p < length (set (take j code ++ drop j out) 1 v)
-      room = unfold codeLength in simp length-set (omega (arith, parent-size j e, r .room, n-in, q))
+      pub parent-ready : (n - (D - n * q) - 1 < 4) × (1 ≤ axis (getD (four from) (n - (D - n * q) - 1) 0)) × (axis (getD (four from) (n - (D - n * q) - 1) 0) ≤ 8)
+      parent-ready = told-ready (omega (arith, range)) (range .1) m passes (four from) (held-front held) (range .1) place
 
-      low : (1 ≤ axis (getD es n 0)) × (axis (getD es n 0) ≤ 8)
-      low = unfold es in (passes .signed .low n n-in, omega (arith, passes .signed .high n n-in, r .axes, k .range .few))
+      cut : take (codeLength d D) code ≡ d ∷ suc D ∷ (m .entries ++ fewer d D (m .orthants))
+      unfolding codeLength fewer m
+      cut = ap (take (2 + d + boxDepth d D)) (code-is code (r .passes) (r .axes) (r .depth)) ∙ rw there (ap (λ (l : List ℕ). d ∷ suc D ∷ l) (take-append-add ((partsOf code) .entries) ((partsOf code) .orthants) (boxDepth d D)))
+        where
+          there : 2 + d + boxDepth d D ≡ suc (suc (length ((partsOf code) .entries) + boxDepth d D))
+          there = omega (arith, code-passes code (r .passes) (r .axes) (r .depth) .signed .size)
 
-  own-is : (own : ℕ) → own ≡ ownByte (take (boxDepth d D) (drop (2 + d) code)) → own ≡ ownByte (take (boxDepth d D) os)
-  unfolding os m partsOf orthantsOf
-  own-is own e = e ∙ rw (r .axes) refl
+      pub parent-written : {own b v : ℕ} {back : Four} {c a : List ℕ} → own ≡ ownByte (take q (drop (2 + n) code)) → BackIs (n - (D - n * q) - 1) own (four from) b (four back)
+          → c ≡ take (2 + n + q) code ++ drop (2 + n + q) out → v ≡ getD code 1 0 - 1 → a ≡ paste (set c 1 v) 2 (four back) n → a ≡ parentCode code ++ drop (codeLength d D) out
+      parent-written {own} {b} {v} {back} {c} {a} o s g w i = i ∙ rw (copied, e) (entries-over d d D (m .entries) (four back) ((parentName d D m) .entries) (fewer d D (m .orthants) ++ rest) (passes .signed .size) up)
+          ∙ sym (append-assoc (d ∷ D ∷ (parentName d D m) .entries) (fewer d D (m .orthants)) rest) ∙ named
+        where
+          rest : List ℕ
+          rest = drop (codeLength d D) out
 
-  written : (j v p own b : ℕ) (a : List ℕ) → j ≡ codeLength d D → v ≡ D → p ≡ n → own ≡ ownByte (take (boxDepth d D) os) → StepsBack 2 p own (buffer j v) b a
-      → a ≡ bytes d D (parentName d D m) ++ drop (codeLength d D) out
-  unfolding bytes parentName left
-  written j v p own b a e f q o s = s .entries ∙ unfold atPlace in (rw (buffer-is j v e, f, q) (ap (λ (l : List ℕ). d ∷ D ∷ l) (unstepped-append b n es left (omega (arith, es-size, n-in)))))
-      ∙ ap (λ (c : ℕ). d ∷ D ∷ (unstepped c n es ++ left)) step
-      ∙ ap (λ (l : List ℕ). d ∷ D ∷ l) (sym (append-assoc (unstepped (lastStep d D m) n es) (take (boxDepth d D) os) (drop (codeLength d D) out)))
-      ∙ again
-    where
-      step : b ≡ lastStep d D m
-      step = s .step ∙ unfold lastStep ownMinus fewer n es os in rw (entry-is j v e p q, o) refl
+          byte : v ≡ D
+          byte = unfold depthOf in omega (arith, r .depth)
 
-      again : d ∷ D ∷ ((unstepped (lastStep d D m) n es ++ take (boxDepth d D) os) ++ drop (codeLength d D) out) ≡ d ∷ D ∷
-          (((parentName d D m) .entries ++ (parentName d D m) .orthants) ++ drop (codeLength d D) out)
-      again = unfold fewer n es os in refl
+          front : take (2 + n + q) code ++ drop (2 + n + q) out ≡ (d ∷ suc D ∷ (m .entries ++ fewer d D (m .orthants))) ++ rest
+          front = rw (counted, cut) refl
 
-  pub parent-written : (j v p own b : ℕ) (a : List ℕ) → j ≡ codeLength d D → v ≡ D → p ≡ splitPlace d D - 1 → own ≡ ownByte (take (boxDepth d D) (drop (2 + d) code))
-      → StepsBack 2 p own (set (take j code ++ drop j out) 1 v) b a → a ≡ parentCode code ++ drop (codeLength d D) out
-  unfolding buffer n parentCode m
-  parent-written j v p own b a e f q o s = written j v p own b a e f q (own-is own o) s ∙ rw (← r .axes, ← less) refl
-    where
-      less : D ≡ depthOf code - 1
-      less = omega (arith, r .depth)
+          copied : set c 1 v ≡ d ∷ D ∷ (m .entries ++ (fewer d D (m .orthants) ++ rest))
+          copied = ap (λ (l : List ℕ). set l 1 v) (g ∙ front) ∙ rw byte (ap (λ (l : List ℕ). d ∷ D ∷ l) (append-assoc (m .entries) (fewer d D (m .orthants)) rest))
+
+          box : own ≡ ownByte (fewer d D (m .orthants))
+          box = o ∙ unfold fewer m partsOf orthantsOf in rw (f, e, r .axes) refl
+
+          up : take d (four back) ≡ (parentName d D m) .entries
+          up = told-entries (omega (arith, range)) (range .1) m passes (four from) (held-front held) (range .1) place box s
+
+          less : D ≡ depthOf code - 1
+          less = omega (arith, r .depth)
+
+          named : ((d ∷ D ∷ (parentName d D m) .entries) ++ fewer d D (m .orthants)) ++ rest ≡ parentCode code ++ rest
+          named = unfold parentCode bytes parentName m in rw (← r .axes, ← less) refl

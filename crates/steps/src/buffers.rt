@@ -4,8 +4,8 @@ ghost use Prim.Native.Nat.{suc, _+_, _≤_, _<_};
 ghost use lib.ListN.{length, getD, take, drop};
 ghost use mathlib.Core.List.{_++_};
 ghost use Rattle.dimension.specs.Sizes.{longestOfAll};
-ghost use Rattle.bisection.specs.Codes.{axis, turned, orthant};
-ghost use Rattle.bisection.specs.Theorems.Entries.{Signed, unturned};
+ghost use Rattle.bisection.specs.Codes.{axis, turned};
+ghost use Rattle.bisection.specs.Theorems.Entries.{unturned};
 ghost use Rattle.steps.specs.Buffers.{atPlace};
 ghost use Rattle.steps.specs.Copying.{CopiesFour};
 use dimension::Dim;
@@ -72,23 +72,4 @@ pub fn unturn(buf: &mut [u8], at: usize, n: usize)
         moved = e;
         i += 1;
     }
-}
-
-// The orthant byte of d entries: high on the axes that have a minus. Where there are fewer than the most axes it reads the first
-// one again.
-pub fn orthant_of(buf: &[u8], at: usize, d: usize) -> u8
-    requires { ⌜ (1 ≤ d) × (d ≤ 4) × (at + d ≤ length (now buf)) × Signed d (take d (drop at (now buf))) ⌝ }
-    ensures { λ r. ⌜ r ≡ orthant (take d (drop at (now (buf .entry)))) ⌝ }
-{
-    let mut mask: u8 = 0;
-    let mut i: usize = 0;
-    while i < Dim::MOST_AXES {
-        let j = check::place_in(i, d);
-        let e = buf[at + j];
-        if entries::is_minus(e) {
-            mask = entries::raise(mask, entries::axis_of(e));
-        }
-        i += 1;
-    }
-    mask
 }

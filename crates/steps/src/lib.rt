@@ -1,58 +1,33 @@
-// One step of the bisection on a code that stands in a lent buffer, entries from place 2 on, and one step back.
-pub mod buffers; // buffers.rt: entries in a lent buffer
+// One step of the bisection on a code, entries from place 2 on, written to a lent buffer; and one step back.
+pub mod buffers; // buffers.rt: bytes in a lent buffer
 pub mod walks; // walks.rt: a whole path down, a whole path up
 
 ghost use mathlib.Core.Path.{_≡_};
 ghost use mathlib.Core.Bool.{cond};
 ghost use lib.Dec.{eqb};
-ghost use Prim.Native.Nat.{suc, _+_, _-_, _≤_, _<_};
-ghost use lib.ListN.{length, getD, take, drop};
-ghost use Rattle.dimension.specs.Sizes.{axesOf, codeLength, splitPlace, boxDepth};
+ghost use Prim.Native.Nat.{suc, _+_, _-_, _≤_};
+ghost use lib.ListN.{length, take, drop};
+ghost use Rattle.dimension.specs.Sizes.{axesOf, codeLength};
 ghost use mathlib.Core.List.{_++_};
-ghost use Rattle.bisection.specs.Codes.{axis, stepped};
 ghost use Rattle.bisection.specs.Theorems.CodePaths.{childCode, parentCode};
-ghost use Rattle.bisection.specs.Theorems.Entries.{Signed};
-ghost use Rattle.bisection.specs.Theorems.Passing.{Passes};
-ghost use Rattle.steps.specs.Buffers.{atPlace};
 ghost use Rattle.entries.specs.Walks.{ownByte};
-ghost use Rattle.steps.specs.Steps.{nameIn, boxed, StepsTo, StepsBack};
+ghost use Rattle.steps.specs.Steps.{RoomForBox, BoxPut};
 ghost use Rattle.steps.specs.Above.{placeAbove, BoxesReady, boxesAbove};
 ghost use Rattle.steps.specs.Relatives.{ChildReady, ParentReady};
 use dimension::Dim;
-use entries::check;
+use fours::Four;
 
-// The entries after the step: child 1 turns the first k of them.
-pub fn turn_step(buf: &mut [u8], k: usize, which: u8)
-    requires { ⌜ (1 ≤ k) × (1 + k < length (now buf)) × (1 ≤ axis (getD (now buf) 2 0)) ⌝ }
-    ensures { λ r. ⌜ now (buf .exit) ≡ atPlace 2 (stepped which k) (now (buf .entry)) ⌝ }
-{
-    if which == 0 {
-        return;
-    }
-    buffers::turn(buf, 2, k - 1);
-}
-
-// The orthant after the step: one is appended when the new level is 0, that is when k was 1.
-pub fn box_step(buf: &mut [u8], dim: Dim, depth: usize, k: usize)
-    requires { ⌜ (codeLength (axesOf dim) (suc depth) ≤ length (now buf)) × Signed (axesOf dim) (take (axesOf dim) (drop 2 (now buf))) × (k ≡ splitPlace (axesOf dim) depth) ⌝ }
-    ensures { λ r. ⌜ now (buf .exit) ≡ boxed (axesOf dim) depth (now (buf .entry)) ⌝ }
+// The orthant after a step, which the entries give: one is put behind the others when the new level is 0, that is when k was 1.
+// Answers where the next one goes.
+pub fn put_box(e: Four, k: usize, code: &mut [u8], at: usize) -> usize
+    requires { ⌜ RoomForBox k at (now code) ⌝ }
+    ensures { λ r. ⌜ BoxPut e k at (now (code .entry)) (now (code .exit)) r ⌝ }
 {
     if k != 1 {
-        return;
+        return at;
     }
-    let d = dim.axes();
-    let orthant = buffers::orthant_of(buf, 2, d);
-    let at = 2 + d + dim.box_depth(depth);
-    buf[at] = orthant;
-}
-
-// The step from a depth, whose split place is k: entries, then the orthant that they give.
-pub fn step_in(buf: &mut [u8], dim: Dim, depth: usize, k: usize, which: u8)
-    requires { ⌜ (codeLength (axesOf dim) (suc depth) ≤ length (now buf)) × Passes (axesOf dim) depth (nameIn (axesOf dim) depth (now buf)) × (k ≡ splitPlace (axesOf dim) depth) ⌝ }
-    ensures { λ r. ⌜ StepsTo (axesOf dim) depth which (now (buf .entry)) (now (buf .exit)) ⌝ }
-{
-    turn_step(buf, k, which);
-    box_step(buf, dim, depth, k);
+    code[at] = fours::own_of(e);
+    at + 1
 }
 
 // The split place one step deeper.
@@ -88,18 +63,6 @@ pub fn boxes_above(boxes: usize, k: usize, axes: usize) -> usize
     boxes
 }
 
-// Takes back the last step of the entries from `at` on: entry n tells it by its sign against the parent's box.
-pub fn unstep(buf: &mut [u8], at: usize, n: usize, own: u8) -> u8
-    requires { ⌜ (at + n < length (now buf)) × (1 ≤ axis (getD (now buf) (at + n) 0)) × (axis (getD (now buf) (at + n) 0) ≤ 8) ⌝ }
-    ensures { λ r. ⌜ StepsBack at n own (now (buf .entry)) r (now (buf .exit)) ⌝ }
-{
-    if check::same_sign(buf[at + n], own) {
-        return 0;
-    }
-    buffers::unturn(buf, at, n);
-    1
-}
-
 // The byte of the own signs of the box, the last of the first so many orthants, 0 where there is none.
 pub fn own_of(code: &[u8], axes: usize, boxes: usize) -> u8
     requires { ⌜ 2 + axes + boxes ≤ length (now code) ⌝ }
@@ -111,14 +74,18 @@ pub fn own_of(code: &[u8], axes: usize, boxes: usize) -> u8
     code[1 + axes + boxes]
 }
 
-// Writes the child's code: the code with one more depth, stepped where it stands.
+// Writes the child's code: a copy of the code with one more depth, the entries stepped, and the orthant that they give.
 pub fn write_child(code: &[u8], dim: Dim, depth: usize, which: u8, out: &mut [u8])
     requires { ⌜ ChildReady (now code) (axesOf dim) depth (now out) ⌝ }
     ensures { λ r. ⌜ now (out .exit) ≡ childCode which (now (code .entry)) ++ drop (codeLength (axesOf dim) (suc depth)) (now (out .entry)) ⌝ }
 {
+    let axes = dim.axes();
+    let k = dim.split_place(depth);
+    let next = fours::step(fours::entries_of(code, 2, axes), k - 1, which);
     buffers::copy_front(code, code.len(), out);
     out[1] = code[1] + 1;
-    step_in(out, dim, depth, dim.split_place(depth), which);
+    fours::write(next, axes, out, 2);
+    put_box(next, k, out, code.len());
 }
 
 // Writes the parent's code, at the depth given: the front of the code with the last step taken back. Its boxes are counted once,
@@ -131,7 +98,8 @@ pub fn write_parent(code: &[u8], dim: Dim, depth: usize, out: &mut [u8])
     let boxes = dim.box_depth(depth);
     let own = own_of(code, axes, boxes);
     let k = axes - (depth - axes * boxes);
+    let back = fours::unstep(fours::entries_of(code, 2, axes), k - 1, own);
     buffers::copy_front(code, 2 + axes + boxes, out);
     out[1] = code[1] - 1;
-    unstep(out, 2, k - 1, own);
+    fours::write(back.before, axes, out, 2);
 }

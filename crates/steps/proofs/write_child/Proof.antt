@@ -1,50 +1,98 @@
--- `write_child` meets its contract: the step rule on a copy of the code.
-use mathlib.Core.Path.{ap, _∙_}
-use Prim.Native.Nat.{_-_}
-use lib.ListN.{length, length-set}
+-- `write_child` meets its contract: the copy with one more depth, the entries stepped, and the orthant that they give.
+use mathlib.Core.Path.{_≡_, refl, _∙_}
 use native.Mathlib.Omega.{arith}
-use Rattle.steps.specs.Relatives.{child-fits, child-four, child-few, child-two, child-depth, child-byte, child-copied, child-ready, child-written}
+use lib.ListN.{length-set}
+use Rattle.steps.specs.Relatives.{child-front, child-byte, child-entries, child-over, child-some, child-first, child-box, child-written}
 use borrow.Author.Needs.{needs}
 use Rattle.steps.proofs.write_child.Statement.{statement}
 use Rattle.steps.proofs.write_child.Tie as tie
 
+axes-requires : tie.Need-axes-requires
+axes-requires c κs = search needs
+
+split-place-requires : tie.Need-split-place-requires
+split-place-requires c κs = search needs
+
+entries-of-requires : tie.Need-entries-of-requires
+entries-of-requires c κs =
+    let pre = c .before .before .before .before .pre in
+    child-entries pre (c .before .axes .ensures)
+
+sub-step : tie.Need-sub-step
+sub-step c = search (needs, child-some)
+
+step-requires : tie.Need-step-requires
+step-requires c κs =
+    let pre = c .before .before .before .before .before .pre in
+    let axes = c .before .before .axes in
+    child-first pre (axes .ensures) (c .before .split-place .ensures) (c .entries-of .ensures)
+
 copy-front-requires : tie.Need-copy-front-requires
-copy-front-requires c κs = (child-four (c .before .before .before .pre), child-few (c .before .before .before .pre), omega arith, child-fits (c .before .before .before .pre))
+copy-front-requires c κs = search (needs, child-front)
+
+shared-slice-read-out : tie.Need-shared-slice-read-out
+shared-slice-read-out c =
+    let pre = c .before .before .before .before .before .before .before .before .before .before .before .pre in
+    omega (arith, child-front pre)
+
+add-out : tie.Need-add-out
+add-out c = search (needs, child-byte)
 
 slice-write-out : tie.Need-slice-write-out
 slice-write-out c =
-    let pre = c .before .before .before .before .before .before .before .pre in
-    let copy-front = c .before .before .before .copy-front in
-    omega (arith, ap length (copy-front .ensures), child-copied (pre), child-two (pre), child-fits (pre))
+    let out = c .before .before .out in
+    let pre = c .before .before .before .before .before .before .before .before .before .before .before .pre in
+    omega (arith, out .given, child-front pre)
 
-step-in-requires : tie.Need-step-in-requires
-step-in-requires c κs =
-    let pre = c .before .before .before .before .before .before .before .before .before .pre in
-    let copy-front = c .before .before .before .before .before .copy-front in
-    let r = child-ready (pre) _ in rw (copy-front .ensures) (r .0, r .1, c .split-place .ensures)
+write-requires : tie.Need-write-requires
+write-requires c κs =
+    let pre = c .before .before .before .before .before .before .before .before .before .before .before .before .pre in
+    let axes = c .before .before .before .before .before .before .before .before .before .axes in
+    let out = c .before .before .before .out in
+    child-over pre (axes .ensures) (simp length-set (out .given))
+
+put-box-requires : tie.Need-put-box-requires
+put-box-requires c κs =
+    let pre = c .before .before .before .before .before .before .before .before .before .before .before .before .before .before .before .before .pre in
+    let axes = c .before .before .before .before .before .before .before .before .before .before .before .before .before .axes in
+    let split-place = c .before .before .before .before .before .before .before .before .before .before .before .before .split-place in
+    let entries-of = c .before .before .before .before .before .before .before .before .before .before .before .entries-of in
+    let out2 = c .before .before .out2 in
+    let out = c .before .before .before .before .before .before .before .out in
+    child-box pre (axes .ensures) (split-place .ensures) (entries-of .ensures) _ (out2 .given ∙ simp length-set (out .given))
 
 same-length : tie.Need-same-length
 same-length c =
-    let pre = c .before .before .before .before .before .before .before .before .before .before .before .before .pre in
-    let copy-front = c .before .before .before .before .before .before .before .before .copy-front in
-    c .before .before .step-in .ensures .size ∙ (simp length-set (ap length (copy-front .ensures) ∙ child-copied (pre)))
+    let out2 = c .before .before .before .before .before .out2 in
+    let out = c .before .before .before .before .before .before .before .before .before .before .out in
+    c .before .out3 .given ∙ (out2 .given ∙ simp length-set (out .given))
 
 returns : tie.Need-returns
 returns c =
-    let pre = c .before .before .before .before .before .before .before .before .before .before .before .before .pre in
-    let args = c .before .before .before .before .before .before .before .before .before .before .before .before .args in
-    let copy-front = c .before .before .before .before .before .before .before .before .copy-front in
-    child-written (pre) (args .which) _ _ (child-depth (pre)) (rw (copy-front .ensures) at (c .before .before .step-in .ensures))
+    let pre = c .before .before .before .before .before .before .before .before .before .before .before .before .before .before .before .before .before .before .before .pre in
+    let axes = c .before .before .before .before .before .before .before .before .before .before .before .before .before .before .before .before .axes in
+    let split-place = c .before .before .before .before .before .before .before .before .before .before .before .before .before .before .before .split-place in
+    let entries-of = c .before .before .before .before .before .before .before .before .before .before .before .before .before .before .entries-of in
+    let step = c .before .before .before .before .before .before .before .before .before .before .before .before .before .step in
+    let copy-front = c .before .before .before .before .before .before .before .before .before .before .before .copy-front in
+    let write = c .before .before .before .before .before .before .write in
+    let put-box = c .before .before .put-box in
+    child-written pre (axes .ensures) (split-place .ensures) (entries-of .ensures) _ (step .ensures) (copy-front .ensures) refl (write .ensures) (put-box .ensures)
 
 pub write-child-spec : {M : Type 1} → statement M
 write-child-spec =
     tie.close
     (tie.spec
+    axes-requires
+    split-place-requires
+    entries-of-requires
+    sub-step
+    step-requires
     copy-front-requires
-    (λ c. omega (arith, child-two (c .before .before .before .before .before .before .before .pre)))
-    (λ c. omega (arith, child-byte (c .before .before .before .before .before .before .before .pre)))
+    shared-slice-read-out
+    add-out
     slice-write-out
-    (λ c κs. search needs)
-    step-in-requires
+    write-requires
+    put-box-requires
     same-length
     returns)

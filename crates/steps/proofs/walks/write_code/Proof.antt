@@ -1,42 +1,135 @@
--- `write_code` meets its contract: two bytes, the root, and the walk down the path.
+-- `write_code` meets its contract. The loop keeps: the entries are those of the name t steps down the path, and its orthants are
+-- written.
 use mathlib.Core.Path.{refl, _∙_}
 use Prim.Native.Nat.{_-_}
-use lib.ListN.{length-set}
 use native.Mathlib.Omega.{arith}
-use Rattle.steps.specs.Descents.{code-two, code-d, code-depth, code-ready, code-written}
+use lib.ListN.{length, length-set}
+use Rattle.fours.specs.Laws.{fourOf}
+use Rattle.steps.specs.Descents.{Falling, code-two, code-entries, code-headed, fall-none, fall-size, fall-some, fall-first, fall-room, fall-next, code-over, code-written}
 use borrow.Author.Needs.{needs}
 use Rattle.steps.proofs.walks.write_code.Statement.{statement}
 use Rattle.steps.proofs.walks.write_code.Tie as tie
 
-copy-requires : tie.Need-copy-requires
-copy-requires c κs =
+abbrev Inv-loop : tie.InvT-loop
+Inv-loop root path code₀ axes first₀ second₀ third₀ fourth₀ k₀ at₀ t₀ code first second third fourth k at t = Falling axes root path code₀ t k at (fourOf first second third fourth) code
+
+abbrev μ-loop : tie.MeasureT-loop
+μ-loop root path code₀ axes first₀ second₀ third₀ fourth₀ k₀ at₀ t₀ code first second third fourth k at t = length path - t
+
+axes-requires : tie.Need-axes-requires Inv-loop μ-loop
+axes-requires c κs = search needs
+
+cast-code : tie.Need-cast-code Inv-loop μ-loop
+cast-code c = search needs
+
+slice-write-code : tie.Need-slice-write-code Inv-loop μ-loop
+slice-write-code c =
+    let pre = c .before .before .before .before .pre in
+    omega (arith, code-two pre)
+
+cast-code-2 : tie.Need-cast-code-2 Inv-loop μ-loop
+cast-code-2 c = search needs
+
+slice-write-code-2 : tie.Need-slice-write-code-2 Inv-loop μ-loop
+slice-write-code-2 c =
+    let pre = c .before .before .before .before .pre in
+    simp length-set (omega (arith, code-two pre))
+
+entries-of-requires : tie.Need-entries-of-requires Inv-loop μ-loop
+entries-of-requires c κs =
+    let pre = c .before .before .before .before .pre in
+    code-entries pre (c .axes .ensures)
+
+add-at : tie.Need-add-at Inv-loop μ-loop
+add-at c =
     let pre = c .before .before .before .before .before .pre in
-    (omega (arith, c .before .axes .ensures, pre .axes), simp length-set (omega (arith, c .before .axes .ensures, code-two (pre))))
+    omega (arith, code-entries pre (c .before .axes .ensures))
 
-walk-down-requires : tie.Need-walk-down-requires
-walk-down-requires c κs =
-    let pre = c .before .before .before .before .before .before .before .before .before .pre in
-    let axes = c .before .before .before .before .before .axes in
-    let copy = c .before .before .before .copy in
-    rw (copy .ensures, axes .ensures, code-d (pre), code-depth (pre)) (code-ready (pre))
+loop-holds : tie.Need-loop-holds Inv-loop μ-loop
+loop-holds c =
+    let pre = c .before .before .before .before .before .pre in
+    fall-none (code-headed pre (c .before .axes .ensures)) (c .entries-of .ensures)
 
-returns : tie.Need-returns
+sub-step : tie.Need-sub-step Inv-loop μ-loop
+sub-step c = fall-some (c .before .loop .inv) (c .loop-test .taken)
+
+shared-slice-read-step : tie.Need-shared-slice-read-step Inv-loop μ-loop
+shared-slice-read-step c = search needs
+
+step-requires : tie.Need-step-requires Inv-loop μ-loop
+step-requires c κs =
+    let loop = c .before .before .loop in
+    fall-first (loop .inv) (c .before .loop-test .taken)
+
+put-box-requires : tie.Need-put-box-requires Inv-loop μ-loop
+put-box-requires c κs =
+    let loop = c .before .before .before .before .loop in
+    let loop-test = c .before .before .before .loop-test in
+    fall-room (loop .inv) (loop-test .taken)
+
+place-after-requires : tie.Need-place-after-requires Inv-loop μ-loop
+place-after-requires c κs =
+    let loop = c .before .before .before .before .before .before .before .loop in
+    let loop-test = c .before .before .before .before .before .before .loop-test in
+    fall-some (loop .inv) (loop-test .taken)
+
+add-t : tie.Need-add-t Inv-loop μ-loop
+add-t c = search needs
+
+loop-less : tie.Need-loop-less Inv-loop μ-loop
+loop-less c = search needs
+
+loop-again : tie.Need-loop-again Inv-loop μ-loop
+loop-again c =
+    let loop = c .before .before .before .before .before .before .before .before .loop in
+    let loop-test = c .before .before .before .before .before .before .before .loop-test in
+    let step = c .before .before .before .before .before .step in
+    let put-box = c .before .before .before .put-box in
+    fall-next (loop .inv) (loop-test .taken) (step .ensures) (put-box .ensures) (c .place-after .ensures)
+
+write-requires : tie.Need-write-requires Inv-loop μ-loop
+write-requires c κs =
+    let pre = c .before .before .before .before .before .before .before .before .pre in
+    let axes = c .before .before .before .before .axes in
+    let loop = c .before .before .loop in
+    code-over pre (axes .ensures) (loop .inv) (c .before .loop-test .left)
+
+same-length : tie.Need-same-length Inv-loop μ-loop
+same-length c =
+    let loop = c .before .before .before .before .before .loop in
+    c .before .code2 .given ∙ (fall-size (loop .inv) ∙ simp length-set refl)
+
+returns : tie.Need-returns Inv-loop μ-loop
 returns c =
-    let pre = c .before .before .before .before .before .before .before .before .before .before .before .before .pre in
-    let axes = c .before .before .before .before .before .before .before .before .axes in
-    let copy = c .before .before .before .before .before .before .copy in
-    code-written (pre) _ (rw (copy .ensures, axes .ensures, code-d (pre), code-depth (pre)) at (c .before .before .walk-down .ensures))
+    let pre = c .before .before .before .before .before .before .before .before .before .before .before .pre in
+    let axes = c .before .before .before .before .before .before .before .axes in
+    let loop = c .before .before .before .before .before .loop in
+    let loop-test = c .before .before .before .before .loop-test in
+    let write = c .before .before .write in
+    code-written pre (axes .ensures) (loop .inv) (loop-test .left) (write .ensures)
 
 pub write-code-spec : {M : Type 1} → statement M
 write-code-spec =
     tie.close
     (tie.spec
-    (λ c κs. search needs)
-    (λ c. search needs)
-    (λ c. omega (arith, code-two (c .before .before .before .before .pre)))
-    (λ c. search needs)
-    (λ c. simp length-set (omega (arith, code-two (c .before .before .before .before .pre))))
-    copy-requires
-    walk-down-requires
-    (λ c. c .before .code2 .given ∙ (c .before .before .before .before .before .code .given ∙ simp length-set refl))
+    Inv-loop
+    μ-loop
+    axes-requires
+    cast-code
+    slice-write-code
+    cast-code-2
+    slice-write-code-2
+    entries-of-requires
+    add-at
+    loop-holds
+    sub-step
+    shared-slice-read-step
+    step-requires
+    put-box-requires
+    place-after-requires
+    add-t
+    loop-less
+    loop-again
+    write-requires
+    same-length
     returns)
