@@ -14,6 +14,7 @@ use Rattle.bisection.specs.Refusals.{sameSign}
 use Rattle.bisection.specs.Theorems.Entries.{Signed, unturned, turned-append, unturned-append, signed-turned, signed-unturned}
 use Rattle.bisection.specs.Theorems.Passing.{unstepped}
 use Rattle.fours.specs.declared.Four.{Four}
+use Rattle.entries.specs.Walks.{placeIn}
 use Rattle.fours.specs.Fours.{four, noEntries, Holds, SameFour, BackIs}
 
 -- the entry that a place has

@@ -90,7 +90,7 @@ pub fn matches(next: Next, dim: Dim, bytes: &[u8]) -> Match
     if bytes.len() < length {
         return none;
     }
-    if !fours::same(fours::entries_of(bytes, axes), entries(next)) {
+    if !fours::same(fours::entries_of(bytes, 2, axes), entries(next)) {
         return none;
     }
     if !same_boxes(bytes, 2 + axes, boxes, next.boxes) {
