@@ -5,17 +5,15 @@ use mathlib.Core.List.{List, _∷_}
 use Prim.Native.Nat.{ℕ, zero, suc, _+_, _-_, _*_, _^_, _≤_, _<_}
 use native.Mathlib.Omega.{arith}
 use lib.ListN.{length, getD, take, drop, set, replicate, length-set, length-replicate}
-use lib.Pow.{pow-lt}
+use lib.Pow.{pow-pos, pow-lt}
 use lib.Seq.{drop-cons, drop-set-lt, getD-set-same}
 use Rattle.dimension.specs.Sizes.{greatestDepth, splitPlace, boxDepth}
 use Rattle.bisection.specs.Codes.{axis, minus, high}
 use Rattle.bisection.specs.Refusals.{sameSign}
 use Rattle.entries.specs.Walks.{ownByte}
-use Rattle.fours.specs.declared.Four.{Four}
-use Rattle.fours.specs.Fours.{four, BackIs}
-use Rattle.steps.specs.Buffers.{atPlace}
-use Rattle.steps.specs.Steps.{StepsBack}
-use Rattle.steps.specs.Climbs.{ClimbReady, Climbed, climb-none, up-next}
+use Rattle.fours.specs.Fours.{BackIs}
+use Rattle.steps.specs.Above.{boxesAbove, placeAbove}
+use Rattle.steps.specs.Climbs.{ClimbReady, Climbed, Rising, rise-none, rise-next, rise-done}
 use Rattle.positions.specs.Positions.{startOf}
 
 -- the walk's path is in no buffer: it stands as so many zeros before
@@ -25,113 +23,111 @@ pub record WalkReady (d D : ℕ) (code root : List ℕ) (size : ℕ) : Type 0 wh
   pub small : greatestDepth d ≤ 60
   pub size-is : size ≡ 2 ^ (greatestDepth d - D)
 
--- at depth t: the steps taken back are a path's end, and start is where it leads
-pub record Walked (d D : ℕ) (code : List ℕ) (t : ℕ) (root root' : List ℕ) (start half : ℕ) : Type 0 where
+-- a loop on the way up: the steps taken back are a path's end, and start is where it leads
+pub record Walked (d D : ℕ) (code root : List ℕ) (t k boxes : ℕ) (root' : List ℕ) (start half : ℕ) : Type 0 where
   pub path : List ℕ
-  pub climbed : Climbed d D code t root (replicate D 0) root' path
+  pub rising : Rising d D code root (replicate D 0) t k boxes root' path
+  pub depth : D ≤ greatestDepth d
+  pub small : greatestDepth d ≤ 60
   pub start-is : start ≡ startOf (greatestDepth d - t) (take (D - t) (drop t path))
   pub half-is : half ≡ 2 ^ (greatestDepth d - t)
   pub inside : start + 1 ≤ half
 
--- a step back of entries by value is one at the start of a buffer
-from-start : (n : ℕ) → 0 + n ≡ n
-from-start n = omega arith
+-- its end: the whole path
+pub record Reached (d D : ℕ) (code root root' : List ℕ) (start : ℕ) : Type 0 where
+  pub path : List ℕ
+  pub climbed : Climbed d D code 0 root (replicate D 0) root' path
+  pub start-is : start ≡ startOf (greatestDepth d) (take D path)
 
-pub back-at-start : {n own b : ℕ} {es r : List ℕ} → BackIs n own es b r → StepsBack 0 n own es b r
-unfolding atPlace
-back-at-start {n} {own} {es = es} s = record { step = s .step ∙ ap (λ (i : ℕ). cond (sameSign (minus (getD es i 0)) (high own (axis (getD es i 0)))) 0 1) (sym (from-start n)); entries = s .entries }
+pub walk-none : {d n D size k boxes : ℕ} {code root : List ℕ} → WalkReady d D code root size → n ≡ d → k ≡ splitPlace d D → boxes ≡ boxDepth d D → Walked n D code root D k boxes root 0 size
+unfolding startOf
+walk-none {d} {n} {D} {size} {k} {boxes} {code} {root} r e f g = subst (λ (j : ℕ). Walked j D code root D k boxes root 0 size) (sym e) (record {
+  path = replicate D 0;
+  rising = rise-none (r .climb) f g;
+  depth = r .depth;
+  small = r .small;
+  start-is = rw none refl;
+  half-is = r .size-is;
+  inside = rw (r .size-is) (omega (arith, pow-pos (greatestDepth d - D)));
+})
+  where
+    none : D - D ≡ 0
+    none = omega arith
 
-pub back-ready : (e : Four) (n : ℕ) → (0 + n < length (four e)) × (1 ≤ axis (getD (four e) (0 + n) 0)) × (axis (getD (four e) (0 + n) 0) ≤ 8)
-    → (n < 4) × (1 ≤ axis (getD (four e) n 0)) × (axis (getD (four e) n 0) ≤ 8)
-back-ready e n r = subst (λ (i : ℕ). (i < 4) × (1 ≤ axis (getD (four e) i 0)) × (axis (getD (four e) i 0) ≤ 8)) (from-start n) r
+-- a step is 0 or 1
+step-small : {n own b : ℕ} {es r : List ℕ} → BackIs n own es b r → b ≤ 1
+step-small {n} {own} {es = es} s = rw (s .step) (zero-or-one (sameSign (minus (getD es n 0)) (high own (axis (getD es n 0)))))
+  where
+    zero-or-one : (x : Bool) → cond x 0 1 ≤ 1
+    zero-or-one true = omega arith
+    zero-or-one false = omega arith
 
-power-pos : (n : ℕ) → 1 ≤ 2 ^ n
-power-pos zero = omega arith
-power-pos (suc n) = omega (arith, power-pos n)
+times-one : (b half : ℕ) → b ≤ 1 → b * half ≤ half
+times-one zero half h = omega arith
+times-one (suc zero) half h = omega arith
+times-one (suc (suc b)) half h = absurd (omega arith)
 
-module _ {d D : ℕ} {code root : List ℕ} {size : ℕ} (k : WalkReady d D code root size) where
-  pub walk-none : Walked d D code D root root 0 size
-  unfolding startOf
-  walk-none = record { path = replicate D 0; climbed = climb-none (k .climb); start-is = rw none refl; half-is = k .size-is; inside = rw (k .size-is) (power-pos (greatestDepth d - D)) }
-    where
-      none : D - D ≡ 0
-      none = omega arith
+module _ {d D : ℕ} {code root : List ℕ} {t k boxes : ℕ} {root' : List ℕ} {start half : ℕ} (w : Walked d D code root t k boxes root' start half) (pos : 0 < t) where
+  pub half-small : half < 2 ^ 60
+  half-small = rw (w .half-is) (pow-lt {i = greatestDepth d - t} {j = 60} (omega (arith, w .small)))
 
-  module _ {t : ℕ} {root' : List ℕ} {start half : ℕ} (w : Walked d D code t root root' start half) (pos : 0 < t) (deep : t ≤ D) where
-    M : ℕ
-    M = greatestDepth d
+  -- x is the step as a word
+  module _ {n own b x : ℕ} {r : List ℕ} (s : BackIs n own root' b r) (e : x ≡ b) where
+    weighed : x * half ≤ half
+    weighed = times-one x half (omega (arith, step-small s))
 
-    up : M - (t - 1) ≡ suc (M - t)
-    unfolding M
-    up = omega (arith, k .depth)
+    pub walk-weight : x * half < 2 ^ 64
+    walk-weight = omega (arith, weighed, half-small)
 
-    pub half-small : half < 2 ^ 60
-    half-small = rw (w .half-is) (pow-lt {i = greatestDepth d - t} {j = 60} (omega (arith, k .small)))
+    pub walk-start : start + x * half < 2 ^ 64
+    walk-start = omega (arith, weighed, half-small, w .inside)
 
-    path-is : (b : ℕ) (q : List ℕ) → length q ≡ D → take (D - (t - 1)) (drop (t - 1) (set q (t - 1) b)) ≡ b ∷ take (D - t) (drop t q)
-    path-is b q l = rw (drop-cons (set q (t - 1) b) (t - 1) 0 (rw (length-set q (t - 1) b) (omega arith)), getD-set-same q (t - 1) b 0 (omega arith), drop-set-lt (suc (t - 1)) q (t - 1) b (omega arith), less, back) refl
+  module _ {j : ℕ} (v : j ≡ placeAbove k d) {q own b x : ℕ} {r : List ℕ} (u : q ≡ boxesAbove boxes k d) (o : own ≡ ownByte (take q (drop (2 + d) code)))
+      (s : BackIs (j - 1) own root' b r) (e : x ≡ b) where
+    path-is : take (D - (t - 1)) (drop (t - 1) (set (w .path) (t - 1) b)) ≡ b ∷ take (D - t) (drop t (w .path))
+    path-is = rw (drop-cons (set (w .path) (t - 1) b) (t - 1) 0 (rw (length-set (w .path) (t - 1) b) long), getD-set-same (w .path) (t - 1) b 0 long, drop-set-lt (suc (t - 1)) (w .path) (t - 1) b (omega arith), less, back) refl
       where
+        long : t - 1 < length (w .path)
+        long = omega (arith, w .rising .climbed .path-size, length-replicate {A = ℕ} D 0, w .rising .deep)
+
         less : D - (t - 1) ≡ suc (D - t)
-        less = omega arith
+        less = omega (arith, w .rising .deep)
 
         back : suc (t - 1) ≡ t
         back = omega arith
 
-    module _ (p own b : ℕ) (r : List ℕ) (e : p ≡ splitPlace d (t - 1) - 1) (o : own ≡ ownByte (take (boxDepth d (t - 1)) (drop (2 + d) code))) (s : BackIs p own root' b r) where
-      pub step-small : b ≤ 1
-      step-small = rw (s .step) (zero-or-one (sameSign (minus (getD root' p 0)) (high own (axis (getD root' p 0)))))
-        where
-          zero-or-one : (x : Bool) → cond x 0 1 ≤ 1
-          zero-or-one true = omega arith
-          zero-or-one false = omega arith
+    up : greatestDepth d - (t - 1) ≡ suc (greatestDepth d - t)
+    up = omega (arith, w .depth, w .rising .deep)
 
-      pub walk-next : Walked d D code (t - 1) root r (start + b * half) (half * 2)
-      unfolding M
-      walk-next = record {
-        path = set (w .path) (t - 1) b;
-        climbed = up-next (k .climb) (w .climbed) pos deep p own b r e o (back-at-start s);
-        start-is = sym (ap (startOf (greatestDepth d - (t - 1))) (path-is b (w .path) size-of) ∙ rw up lead);
-        half-is = rw (up, w .half-is) (omega arith);
-        inside = omega (arith, w .inside, weighed);
-      }
-        where
-          size-of : length (w .path) ≡ D
-          size-of = w .climbed .path-size ∙ length-replicate D 0
+    pub walk-next : Walked d D code root (t - 1) j q r (start + x * half) (half * 2)
+    walk-next = record {
+      path = set (w .path) (t - 1) b;
+      rising = rise-next (w .rising) pos v u o s;
+      depth = w .depth;
+      small = w .small;
+      start-is = sym (ap (startOf (greatestDepth d - (t - 1))) path-is ∙ rw up lead);
+      half-is = rw (up, w .half-is) (omega arith);
+      inside = omega (arith, w .inside, weighed s e);
+    }
+      where
+        one : suc (greatestDepth d - t) - 1 ≡ greatestDepth d - t
+        one = omega arith
 
-          lead : startOf (suc (greatestDepth d - t)) (b ∷ take (D - t) (drop t (w .path))) ≡ start + b * half
-          lead = unfold startOf in rw (one, ← w .start-is, ← w .half-is) (omega arith)
-            where
-              one : suc (greatestDepth d - t) - 1 ≡ greatestDepth d - t
-              one = omega arith
+        lead : startOf (suc (greatestDepth d - t)) (b ∷ take (D - t) (drop t (w .path))) ≡ start + x * half
+        lead = unfold startOf in rw (one, ← w .start-is, ← w .half-is, ← e) (omega arith)
 
-          weighed : b * half ≤ half
-          weighed = go b step-small
-            where
-              go : (x : ℕ) → x ≤ 1 → x * half ≤ half
-              go zero h = omega arith
-              go (suc zero) h = omega arith
-              go (suc (suc x)) h = absurd (omega arith)
-
--- the walk is over at depth 0
-pub walk-done : {d D : ℕ} {code root root' : List ℕ} {start half : ℕ} (t : ℕ) → t ≤ 0 → Walked d D code t root root' start half → Walked d D code 0 root root' start (2 ^ greatestDepth d)
-walk-done {d} {D} {code} {root} {root'} {start} {half} t h w = subst (λ (x : ℕ). Walked d D code 0 root root' start x) (w0 .half-is ∙ ap (λ (n : ℕ). 2 ^ n) none) w0
+pub walk-done : {d D a t k boxes start half : ℕ} {code root root' : List ℕ} → Walked d D code root t k boxes root' start half → d ≡ a → t ≤ 0 → Reached a D code root root' start
+walk-done {d} {D} {t = t} {start = start} {code = code} {root = root} {root' = root'} w e z = subst (λ (n : ℕ). Reached n D code root root' start) e (record {
+  path = w .path;
+  climbed = rise-done (w .rising) z;
+  start-is = w .start-is ∙ rw (none, whole, all) refl;
+})
   where
-    none : greatestDepth d - 0 ≡ greatestDepth d
+    none : t ≡ 0
     none = omega arith
 
-    e : t ≡ 0
-    e = omega arith
+    whole : D - 0 ≡ D
+    whole = omega arith
 
-    w0 : Walked d D code 0 root root' start half
-    w0 = subst (λ (x : ℕ). Walked d D code x root root' start half) e w
-
--- a step times a weight that is small enough fits a word
-pub one-of : (b half : ℕ) → b ≤ 1 → half < 2 ^ 60 → b * half < 2 ^ 64
-one-of zero half h l = omega arith
-one-of (suc zero) half h l = omega arith
-one-of (suc (suc b)) half h l = absurd (omega arith)
-
-pub more-of : (b half start : ℕ) → b ≤ 1 → half < 2 ^ 60 → start + 1 ≤ half → start + b * half < 2 ^ 64
-more-of zero half start h l i = omega arith
-more-of (suc zero) half start h l i = omega arith
-more-of (suc (suc b)) half start h l i = absurd (omega arith)
+    all : greatestDepth d - 0 ≡ greatestDepth d
+    all = omega arith

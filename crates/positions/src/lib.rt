@@ -8,7 +8,7 @@ ghost use Rattle.bisection.specs.Refusals.{done, codeRefusal};
 ghost use Rattle.fours.specs.Fours.{four};
 ghost use Rattle.positions.specs.Positions.{PositionIs};
 ghost use Rattle.positions.specs.RootNumbers.{smallerIn, numberIn};
-ghost use Rattle.positions.specs.Walks.{WalkReady, Walked};
+ghost use Rattle.positions.specs.Walks.{WalkReady, Reached};
 use dimension::Dim;
 use fours::Four;
 
@@ -79,7 +79,7 @@ struct Origin {
 // Takes the steps of the entries back, the deepest first, up to the root.
 fn walk(code: &[u8], dim: Dim, depth: usize, from: Four, size: u64) -> Origin
     requires { ⌜ WalkReady (axesOf dim) depth (now code) (four from) size ⌝ }
-    ensures { λ r. ⌜ Walked (axesOf dim) depth (now (code .entry)) 0 (four from) (four (r .root)) (r .start) (2 ^ greatestDepth (axesOf dim)) ⌝ }
+    ensures { λ r. ⌜ Reached (axesOf dim) depth (now (code .entry)) (four from) (four (r .root)) (r .start) ⌝ }
 {
     let axes = dim.axes();
     let mut first = from.first;
@@ -128,7 +128,7 @@ pub fn position_of(code: &[u8]) -> Position
     let axes = dim.axes();
     let depth = common::size(code[1]);
     let size = power(dim.greatest_depth() - depth);
-    let origin = walk(code, dim, depth, fours::entries_of(code, axes), size);
+    let origin = walk(code, dim, depth, fours::entries_of(code, 2, axes), size);
     let root = [
         origin.root.first,
         origin.root.second,

@@ -1,29 +1,36 @@
 -- `position_of` meets its contract: the steps of the entries are taken back, and the root numbered.
-use mathlib.Core.Path.{_≡_, refl, sym, ap, _∙_, subst}
-use Prim.Native.Nat.{ℕ, suc, _+_, _-_, _*_, _^_, _≤_, _<_}
+use mathlib.Core.Path.{_≡_, sym, ap, _∙_}
+use Prim.Native.Nat.{ℕ, _-_, _^_}
 use native.Mathlib.Omega.{arith}
-use lib.ListN.{length, getD}
 use Rattle.dimension.specs.Sizes.{greatestDepth}
 use Rattle.bisection.specs.Codes.{dimensionOf, depthOf}
 use Rattle.entries.specs.Passed.{checked, checked-two}
-use Rattle.fours.specs.Fours.{noEntries}
-use Rattle.positions.specs.Places.{few, place-two, place-copy, place-deep, place-small, place-ready, place-room, place-is}
+use Rattle.positions.specs.Places.{place-entries, place-deep, place-small, place-ready, place-room, place-is}
 use borrow.Author.Needs.{needs}
 use Rattle.positions.proofs.position_of.Statement.{statement}
 use Rattle.positions.proofs.position_of.Tie as tie
 
 shared-slice-read-checked : tie.Need-shared-slice-read-checked
-shared-slice-read-checked c = omega (arith, checked-two (c .before .before .args .code .now) (c .before .before .pre))
+shared-slice-read-checked c =
+    let args = c .before .before .args in
+    let pre = c .before .before .pre in
+    omega (arith, checked-two (args .code .now) pre)
 
 checked-requires : tie.Need-checked-requires
 unfolding dimensionOf
-checked-requires c κs = checked (c .before .before .args .code .now) (c .before .before .pre) .good .dimension
+checked-requires c κs =
+    let args = c .before .before .args in
+    let pre = c .before .before .pre in
+    checked (args .code .now) pre .good .dimension
 
 axes-requires : tie.Need-axes-requires
 axes-requires c κs = search needs
 
 shared-slice-read-size : tie.Need-shared-slice-read-size
-shared-slice-read-size c = omega (arith, checked-two (c .before .before .before .before .before .args .code .now) (c .before .before .before .before .before .pre))
+shared-slice-read-size c =
+    let args = c .before .before .before .before .before .args in
+    let pre = c .before .before .before .before .before .pre in
+    omega (arith, checked-two (args .code .now) pre)
 
 size-requires : tie.Need-size-requires
 size-requires c κs = search needs
@@ -36,47 +43,39 @@ unfolding dimensionOf depthOf
 sub-power c =
     let args = c .before .before .before .before .before .before .before .args in
     let pre = c .before .before .before .before .before .before .before .pre in
-    let the-checked = c .before .before .before .before .checked in
     let axes = c .before .before .before .axes in
-    let h = place-deep (args .code .now) noEntries (pre) _ _ (axes .ensures ∙ the-checked .ensures) (c .before .size .ensures) (omega arith) in omega
-    (arith, h, c .greatest-depth .ensures, ap greatestDepth (axes .ensures))
+    let checked = c .before .before .before .before .checked in
+    omega (arith, place-deep (args .code .now) pre _ _ (axes .ensures ∙ checked .ensures) (c .before .size .ensures), c .greatest-depth .ensures, ap greatestDepth (axes .ensures))
 
 power-requires : tie.Need-power-requires
 unfolding dimensionOf depthOf
 power-requires c κs =
     let args = c .before .before .before .before .before .before .before .args in
     let pre = c .before .before .before .before .before .before .before .pre in
-    let the-checked = c .before .before .before .before .checked in
     let axes = c .before .before .before .axes in
-    let h = place-small (args .code .now) noEntries (pre) _ _ (axes .ensures ∙ the-checked .ensures) (c .before .size .ensures) (omega arith) in omega
-    (arith, h, c .greatest-depth .ensures, ap greatestDepth (axes .ensures))
+    let checked = c .before .before .before .before .checked in
+    omega (arith, place-small (args .code .now) pre _ _ (axes .ensures ∙ checked .ensures) (c .before .size .ensures), c .greatest-depth .ensures, ap greatestDepth (axes .ensures))
 
 entries-of-requires : tie.Need-entries-of-requires
 unfolding dimensionOf depthOf
 entries-of-requires c κs =
     let args = c .before .before .before .before .before .before .before .before .args in
     let pre = c .before .before .before .before .before .before .before .before .pre in
-    let the-checked = c .before .before .before .before .before .checked in
     let axes = c .before .before .before .before .axes in
-    let size = c .before .before .size in (
-      place-two (args .code .now) noEntries (pre) _ _ (axes .ensures ∙ the-checked .ensures) (size .ensures) (omega arith),
-      few (args .code .now) noEntries (pre) _ _
-          (axes .ensures ∙ the-checked .ensures) (size .ensures) (omega arith),
-      place-copy (args .code .now) noEntries (pre) _ _ (axes .ensures ∙ the-checked .ensures)
-          (size .ensures) (omega arith) .0,
-    )
+    let checked = c .before .before .before .before .before .checked in
+    let size = c .before .before .size in
+    place-entries (args .code .now) pre _ _ (axes .ensures ∙ checked .ensures) (size .ensures)
 
 walk-requires : tie.Need-walk-requires
 unfolding dimensionOf depthOf
 walk-requires c κs =
+    let axes = c .before .before .before .before .before .axes in
     let args = c .before .before .before .before .before .before .before .before .before .args in
     let pre = c .before .before .before .before .before .before .before .before .before .pre in
-    let the-checked = c .before .before .before .before .before .before .checked in
-    let axes = c .before .before .before .before .before .axes in
+    let checked = c .before .before .before .before .before .before .checked in
     let size = c .before .before .before .size in
-    rw (c .entries-of .ensures, ← axes .ensures)
-    (place-ready (args .code .now) noEntries (pre) _ _ (axes .ensures ∙ the-checked .ensures) (size .ensures) (omega arith) _
-    (c .before .power .ensures ∙ ap (λ (n : ℕ). 2 ^ (n - size .result)) (c .before .before .greatest-depth .ensures ∙ ap greatestDepth (sym (axes .ensures)))))
+    let greatest-depth = c .before .before .greatest-depth in
+    rw (← axes .ensures) (place-ready (args .code .now) pre _ _ (axes .ensures ∙ checked .ensures) (size .ensures) (c .entries-of .ensures) _ (c .before .power .ensures ∙ ap (λ (n : ℕ). 2 ^ (n - size .result)) (greatest-depth .ensures ∙ ap greatestDepth (sym (axes .ensures)))))
 
 slice-aggregate-number : tie.Need-slice-aggregate-number
 slice-aggregate-number c = search needs
@@ -86,29 +85,25 @@ unfolding dimensionOf depthOf
 number-requires c κs =
     let args = c .before .before .before .before .before .before .before .before .before .before .before .args in
     let pre = c .before .before .before .before .before .before .before .before .before .before .before .pre in
-    let the-checked = c .before .before .before .before .before .before .before .before .checked in
     let axes = c .before .before .before .before .before .before .before .axes in
-    let size = c .before .before .before .before .before .size in (
-      few (args .code .now) noEntries (pre) _ _ (axes .ensures ∙ the-checked .ensures) (size .ensures) (omega arith),
-      place-room (args .code .now) noEntries (pre) _ _
-          (axes .ensures ∙ the-checked .ensures) (size .ensures) (omega arith) _ _ _
-          (rw (c .before .before .entries-of .ensures, ← axes .ensures) at (c .before .walk .ensures)),
-    )
+    let checked = c .before .before .before .before .before .before .before .before .checked in
+    let size = c .before .before .before .before .before .size in
+    let entries-of = c .before .before .entries-of in
+    (place-entries (args .code .now) pre _ _ (axes .ensures ∙ checked .ensures) (size .ensures) .1, place-room (args .code .now) pre _ _ (axes .ensures ∙ checked .ensures) (size .ensures) (entries-of .ensures) _ _ (rw (← axes .ensures) at (c .before .walk .ensures)))
 
 returns : tie.Need-returns
 unfolding dimensionOf depthOf
 returns c =
     let args = c .before .before .before .before .before .before .before .before .before .before .before .before .args in
     let pre = c .before .before .before .before .before .before .before .before .before .before .before .before .pre in
-    let the-checked = c .before .before .before .before .before .before .before .before .before .checked in
     let axes = c .before .before .before .before .before .before .before .before .axes in
+    let checked = c .before .before .before .before .before .before .before .before .before .checked in
     let size = c .before .before .before .before .before .before .size in
-    let greatest-depth = c .before .before .before .before .before .greatest-depth in
-    let power = c .before .before .before .before .power in
     let entries-of = c .before .before .before .entries-of in
-    place-is (args .code .now) noEntries (pre) _ _ (axes .ensures ∙ the-checked .ensures) (size .ensures) (omega arith) _ _ _
-    (rw (entries-of .ensures, ← axes .ensures) at (c .before .before .walk .ensures)) _ _ (c .number .ensures)
-    (power .ensures ∙ ap (λ (n : ℕ). 2 ^ (n - size .result)) (greatest-depth .ensures ∙ ap greatestDepth (sym (axes .ensures))))
+    let walk = c .before .before .walk in
+    let power = c .before .before .before .before .power in
+    let greatest-depth = c .before .before .before .before .before .greatest-depth in
+    place-is (args .code .now) pre _ _ (axes .ensures ∙ checked .ensures) (size .ensures) (entries-of .ensures) _ _ (rw (← axes .ensures) at (walk .ensures)) _ _ (c .number .ensures) (power .ensures ∙ ap (λ (n : ℕ). 2 ^ (n - size .result)) (greatest-depth .ensures ∙ ap greatestDepth (sym (axes .ensures))))
 
 pub position-of-spec : {M : Type 1} → statement M
 position-of-spec =
