@@ -1,15 +1,15 @@
 -- The ways out of a crossing, each with what is known there; and a change of a name's entries where more bytes follow them.
 use mathlib.Core.Path.{_≡_, refl, sym, ap, _∙_, subst}
 use mathlib.Core.Bool.{true, false}
-use mathlib.Core.List.{List, _++_}
+use mathlib.Core.List.{List, _∷_, _++_, append-assoc}
 use mathlib.Core.Logic.{_≢_}
-use Prim.Native.Nat.{ℕ, suc, _-_, _≤_, _<_}
+use Prim.Native.Nat.{ℕ, suc, _+_, _-_, _≤_, _<_}
 use native.Mathlib.Omega.{arith}
 use lib.Dec.{T}
-use lib.ListN.{length, getD, drop, set, length-set, List·getD-append}
-use lib.Seq.{set-append-left}
+use lib.ListN.{length, getD, take, drop, set, length-set, List·getD-append}
+use lib.Seq.{set-append-left, drop-at, paste}
 use Rattle.bisection.specs.Cells.{cellOf}
-use Rattle.bisection.specs.Codes.{dimensionOf, negated}
+use Rattle.bisection.specs.Codes.{bytes, dimensionOf, depthOf, entriesOf, orthantsOf, partsOf, negated}
 use Rattle.bisection.specs.Refusals.{done, refusedStep, refusedFace, refusedShort, codeRefusal}
 use Rattle.bisection.specs.Facets.{IsCell, Shares}
 use Rattle.bisection.specs.Theorems.CodePaths.{rootOf, pathOf}
@@ -21,7 +21,7 @@ use Rattle.bisection.specs.Theorems.Crossing.Rearranged.{exchanged-length, nega
 use Rattle.bisection.specs.Theorems.Neighbour.{isBlocked, tableCode, tablePlace, blocked-is-face, blocked-alone, face-is-blocked, across-unblocked}
 use Rattle.bisection.specs.Theorems.Entries.{turned-append}
 use Rattle.steps.specs.Parents.{unstepped-append}
-use Rattle.entries.specs.Passed.{checked}
+use Rattle.entries.specs.Passed.{Checked, checked}
 use Rattle.crossing.specs.declared.Crossed.{Crossed}
 use Rattle.crossing.specs.Outcome.{Refuses, Walled, Beyond, Meets, wall, short, crossed, Crosses}
 
@@ -88,6 +88,24 @@ module _ (code before : List ℕ) (i : ℕ) {r : Crossed} where
       where
         size : length (tableCode code i) ≡ length code
         size = table-size code p i il e
+
+-- a code that passes with other entries, before more bytes
+pub code-pasted : (code : List ℕ) (p : codeRefusal code ≡ done) {d : ℕ} → d ≡ dimensionOf code → (es rest : List ℕ)
+    → paste (code ++ rest) 2 es d ≡ bytes (dimensionOf code) (depthOf code) (record { entries = take d es; orthants = orthantsOf code }) ++ rest
+unfolding bytes
+code-pasted code p {d} a es rest = ap (λ (l : List ℕ). paste (l ++ rest) 2 es d) (k .good .is)
+    ∙ ap (λ (l : List ℕ). (dimensionOf code ∷ depthOf code ∷ take d es) ++ l) behind
+    ∙ ap (λ (l : List ℕ). dimensionOf code ∷ depthOf code ∷ l) (sym (append-assoc (take d es) (orthantsOf code) rest))
+  where
+    k : Checked code
+    k = checked code p
+
+    two : 2 + d ≡ suc (suc d)
+    two = omega arith
+
+    behind : drop (2 + d) (bytes (dimensionOf code) (depthOf code) (partsOf code) ++ rest) ≡ orthantsOf code ++ rest
+    behind = unfold bytes partsOf in rw (two, append-assoc (entriesOf code) (orthantsOf code) rest)
+        (drop-at (entriesOf code) (orthantsOf code ++ rest) d (unfold partsOf in k .good .passes .signed .size ∙ sym a))
 
 -- a change of the entries goes no further
 pub negated-append : (at : ℕ) (es rest : List ℕ) → at < length es → negatedAt at (es ++ rest) ≡ negatedAt at es ++ rest

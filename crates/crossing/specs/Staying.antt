@@ -9,7 +9,7 @@ use native.Mathlib.Omega.{arith}
 use native.Mathlib.Decide.{decLt}
 use lib.Dec.{eqb}
 use lib.ListN.{length, getD, take, drop, length-append, List·getD-append}
-use lib.Seq.{take-at}
+use lib.Seq.{take-at, drop-at, paste}
 use borrow.Author.Tests.{ne-eqb}
 use Rattle.dimension.specs.Sizes.{codeLength, longestOfAll, splitPlace}
 use Rattle.dimension.specs.Laws.{split-range}
@@ -18,15 +18,18 @@ use Rattle.bisection.specs.Refusals.{done, refusedShort, sameSign, ownMinus, co
 use Rattle.bisection.specs.Theorems.Table.{swap, left, right, trade, moveOf, newPlace, nextOwn, entriesBy, orthantsBy, blockedBy, blocked, acrossName}
 use Rattle.bisection.specs.Theorems.Crossing.Moves.{view}
 use Rattle.bisection.specs.Theorems.Crossing.Sound.{Allowed, allowed}
+use Rattle.bisection.specs.Theorems.Crossing.Rearranged.{entries-length}
 use Rattle.bisection.specs.Theorems.Neighbour.{isBlocked, tableCode, tablePlace}
-use Rattle.steps.specs.Buffers.{atPlace}
 use Rattle.entries.specs.Walks.{ownByte}
 use Rattle.entries.specs.Passed.{code-few, Checked, checked}
 use Rattle.steps.specs.Copying.{whole-front}
+use Rattle.fours.specs.declared.Four.{Four}
+use Rattle.fours.specs.Fours.{four, noEntries}
+use Rattle.fours.specs.Laws.{pasted}
 use Rattle.moves.specs.Rearranging.{ownNext, Rearranges, within, within-is, Movable}
 use Rattle.crossing.specs.declared.Crossed.{Crossed}
 use Rattle.crossing.specs.Outcome.{Crosses}
-use Rattle.crossing.specs.Answers.{Bare, cross-short, cross-done, entries-append, table-place}
+use Rattle.crossing.specs.Answers.{Bare, cross-short, cross-done, entries-append, table-place, code-pasted}
 
 pub record Staying (code : List ℕ) (d k i : ℕ) : Type 0 where
   pub passes : codeRefusal code ≡ done
@@ -97,6 +100,9 @@ module _ {code : List ℕ} {d k i : ℕ} (r : Staying code d k i) where
   unfolding codeLength
   staying-room = omega (arith, c .size, r .axes)
 
+  pub staying-put : (buf out : List ℕ) → length buf ≡ length out → length code ≤ length out → 2 + d ≤ length buf
+  staying-put buf out e h = omega (arith, staying-room)
+
   pub staying-long : 4 ≤ length code
   staying-long = omega (arith, staying-room, r .axes, c .range .two)
 
@@ -120,90 +126,76 @@ module _ {code : List ℕ} {d k i : ℕ} (r : Staying code d k i) where
   pub staying-small : tablePlace code i ≤ 4
   staying-small = omega (arith, table-place code (r .passes) i staying-facet staying-free, c .range .few)
 
-  -- the code copied to the buffer's front
-  module _ (out : List ℕ) where
-    rest : List ℕ
-    rest = drop (length code) out
+  -- the code's entries by value
+  es : List ℕ
+  es = m .entries
 
-    es : List ℕ
-    es = m .entries
+  sized : length es ≡ dim
+  unfolding es m dim
+  sized = c .good .passes .signed .size
 
-    os : List ℕ
-    os = m .orthants
+  pub staying-two : 2 ≤ d
+  staying-two = omega (arith, r .axes, c .range .two)
 
-    sized : length es ≡ dim
-    unfolding es m dim
-    sized = c .good .passes .signed .size
+  pub staying-four : d ≤ 4
+  staying-four = omega (arith, r .axes, c .range .few)
 
-    l : List ℕ
-    l = dim ∷ depthOf code ∷ (es ++ (os ++ rest))
+  allows : Allowed dim k (within k i (nextOwn k m))
+  unfolding dim
+  allows = subst (Allowed (dimensionOf code) k) (within-is (dimensionOf code) k i (nextOwn k m) (omega (arith, r .inside, r .axes)) (λ e. omega (arith, r .first e, r .axes)))
+      (allowed (range .0) (range .1) staying-facet (view (dimensionOf code) k i (nextOwn k m)))
 
-    copy-is : code ++ drop (length code) out ≡ l
-    unfolding l es os rest m dim
-    copy-is = ap (λ (x : List ℕ). x ++ drop (length code) out) (c .good .is)
-        ∙ (unfold bytes in ap (λ (x : List ℕ). dimensionOf code ∷ depthOf code ∷ x) (append-assoc ((partsOf code) .entries) ((partsOf code) .orthants) (drop (length code) out)))
+  module _ {l : List ℕ} (q : l ≡ paste noEntries 0 (drop 2 code) d) where
+    held : l ≡ es ++ drop d noEntries
+    unfolding es m partsOf entriesOf
+    held = q ∙ pasted (drop 2 code) d ∙ ap (λ (n : ℕ). take n (drop 2 code) ++ drop d noEntries) (r .axes)
 
-    movable : Movable k i l
-    unfolding l es dim m
-    movable = record {
-      d = dimensionOf code;
-      few = omega (arith, c .range .few);
-      room = simp length-append (omega (arith, sized));
-      signed = rw (take-at ((partsOf code) .entries) (os ++ rest) (dimensionOf code) sized) (c .good .passes .signed);
-      split = range .0;
-      inside = omega (arith, r .inside, r .axes);
-      first = λ e. omega (arith, r .first e, r .axes);
-    }
+    entry : k < dim → getD l k 0 ≡ getD es k 0
+    entry h = ap (λ (x : List ℕ). getD x k 0) held ∙ List·getD-append es (drop d noEntries) 0 k (omega (arith, sized))
 
-    own-is : (own : ℕ) → own ≡ ownByte (drop (2 + d) code) → k < dim → ownNext k own l ≡ nextOwn k m
-    unfolding nextOwn ownMinus l es m partsOf orthantsOf dim
-    own-is own e h = rw (e ∙ ap (λ (x : ℕ). ownByte (drop (2 + x) code)) (r .axes))
-        (ap (λ (x : ℕ). sameSign (minus x) (high (ownByte (drop (2 + dimensionOf code) code)) (axis x))) entry)
-      where
-        two : 2 + k ≡ suc (suc k)
-        two = omega arith
+    -- as the code has the facet and the box's own signs; then what the rearrangement gives
+    module _ {j own : ℕ} (f : j ≡ i) (o : own ≡ ownByte (drop (2 + d) code)) where
+      same-row : within k j (ownNext k own l) ≡ within k i (nextOwn k m)
+      same-row = rw f (go (decLt k dim))
+        where
+          go : Dec (k < dim) → within k i (ownNext k own l) ≡ within k i (nextOwn k m)
+          go (yes h) = ap (within k i) (unfold nextOwn ownMinus m es partsOf orthantsOf dim in rw (o ∙ ap (λ (x : ℕ). ownByte (drop (2 + x) code)) (r .axes))
+              (ap (λ (x : ℕ). sameSign (minus x) (high (ownByte (drop (2 + dimensionOf code) code)) (axis x))) (entry h)))
+          go (no h) = unfold within dim in rw (ne-eqb i 0 (λ z. omega (arith, r .first z, r .axes)), ne-eqb i k (omega (arith, r .inside, r .axes, range))) refl
 
-        entry : getD (dimensionOf code ∷ depthOf code ∷ (entriesOf code ++ (os ++ rest))) (2 + k) 0 ≡ getD (entriesOf code) k 0
-        entry = rw two (List·getD-append (entriesOf code) (os ++ rest) 0 k (omega (arith, sized)))
+      module _ {place : ℕ} {rs : List ℕ} (s : Rearranges k (within k j (ownNext k own l)) l place rs) where
+        there : place ≡ tablePlace code i
+        unfolding newPlace dim m
+        there = s .new (dimensionOf code) ∙ rw (same-row, row, ← r .split) refl
 
-    same-row : (own : ℕ) → own ≡ ownByte (drop (2 + d) code) → within k i (ownNext k own l) ≡ within k i (nextOwn k m)
-    same-row own e = go (decLt k dim)
-      where
-        go : Dec (k < dim) → within k i (ownNext k own l) ≡ within k i (nextOwn k m)
-        go (yes h) = ap (within k i) (own-is own e h)
-        go (no h) = unfold within dim in rw (ne-eqb i 0 (λ z. omega (arith, r .first z, r .axes)), ne-eqb i k (omega (arith, r .inside, r .axes, range))) refl
+        pub staying-byte : place < 256
+        staying-byte = omega (arith, there, staying-small)
 
-    allows : Allowed dim k (within k i (nextOwn k m))
-    unfolding dim
-    allows = subst (Allowed (dimensionOf code) k) (within-is (dimensionOf code) k i (nextOwn k m) (omega (arith, r .inside, r .axes)) (λ e. omega (arith, r .first e, r .axes)))
-        (allowed (range .0) (range .1) staying-facet (view (dimensionOf code) k i (nextOwn k m)))
+        entries : take d rs ≡ entriesBy dim k (within k i (nextOwn k m)) es
+        unfolding dim
+        entries = ap (take d) (s .entries dim ∙ rw (same-row, held) (entries-append allows (range .0) (range .1) es (drop d noEntries) sized))
+            ∙ take-at (entriesBy dim k (within k i (nextOwn k m)) es) (drop d noEntries) d (entries-length es sized allows ∙ sym (r .axes))
 
-    written : (a : List ℕ) → a ≡ atPlace 2 (entriesBy dim k (within k i (nextOwn k m))) l → a ≡ tableCode code i ++ rest
-    unfolding atPlace l bytes acrossName es os m dim
-    written a e = e ∙ ap (λ (x : List ℕ). dimensionOf code ∷ depthOf code ∷ x) (entries-append allows (range .0) (range .1) ((partsOf code) .entries) ((partsOf code) .orthants ++ rest) sized
-        ∙ sym (append-assoc (entriesBy (dimensionOf code) k (within k i (nextOwn k (partsOf code))) ((partsOf code) .entries)) ((partsOf code) .orthants) rest))
-        ∙ (rw (row, ← r .split, within-orthants (dimensionOf code) k i (nextOwn k (partsOf code)) (partsOf code)) refl)
+        across : bytes (dimensionOf code) (depthOf code) (record { entries = take d rs; orthants = orthantsOf code }) ≡ tableCode code i
+        unfolding bytes acrossName dim m es partsOf
+        across = rw (entries, row, ← r .split, within-orthants (dimensionOf code) k i (nextOwn k (partsOf code)) (partsOf code)) refl
 
-  -- the buffer as the code has it, with the facet and the box's own signs; then what the rearrangement leaves there
-  module _ (out : List ℕ) {buf : List ℕ} {j : ℕ} (q : buf ≡ take (length code) code ++ drop (length code) out) (f : j ≡ i) where
-    copied : buf ≡ l out
-    copied = q ∙ whole-front code out ∙ copy-is out
+        pub staying-done : (out : List ℕ) {buf after : List ℕ} → length code ≤ length out → buf ≡ take (length code) code ++ drop (length code) out → after ≡ paste buf 2 rs d
+            → Crosses code i out (record { refusal = done; place = place; length = length code }) after
+        staying-done out h b a = cross-done code out i (r .passes) staying-facet staying-free h refl there refl
+            (a ∙ ap (λ (l : List ℕ). paste l 2 rs d) (b ∙ whole-front code out) ∙ code-pasted code (r .passes) (r .axes) rs (drop (length code) out)
+            ∙ ap (λ (l : List ℕ). l ++ drop (length code) out) across)
 
-    pub staying-movable : Movable k j buf
-    staying-movable = rw (copied, f) (movable out)
-
-    module _ {own : ℕ} (e : own ≡ ownByte (drop (2 + d) code)) {place : ℕ} {after : List ℕ} (s : Rearranges k (within k j (ownNext k own buf)) buf place after) where
-      there : place ≡ tablePlace code i
-      unfolding newPlace dim m
-      there = s .new (dimensionOf code) ∙ rw (copied, f, same-row out own e, row, ← r .split) refl
-
-      pub staying-byte : place < 256
-      staying-byte = omega (arith, there, staying-small)
-
-      pub staying-done : length code ≤ length out → Crosses code i out (record { refusal = done; place = place; length = length code }) after
-      unfolding rest
-      staying-done h = cross-done code out i (r .passes) staying-facet staying-free h refl there refl
-          (written out after (s .entries dim ∙ rw (copied, f, same-row out own e) refl))
+  pub staying-movable : (e : Four) {j : ℕ} → four e ≡ paste noEntries 0 (drop 2 code) d → j ≡ i → Movable d k j e
+  unfolding es m dim
+  staying-movable e q f = record {
+    es = (partsOf code) .entries;
+    held = record { signed = rw (r .axes) (c .good .passes .signed); is = held q };
+    two = staying-two;
+    split = range .0;
+    inside = rw f (r .inside);
+    first = λ z. r .first (sym f ∙ z);
+  }
 
   pub staying-short : (out : List ℕ) {s : Crossed} → length out < length code → Bare refusedShort s → Crosses code i out s out
   staying-short out h f = cross-short code out i (r .passes) staying-facet staying-free h f

@@ -11,6 +11,7 @@ use bisection::REFUSED_FACE;
 use bisection::REFUSED_SHORT;
 use bisection::REFUSED_STEP;
 use entries::check;
+use fours::rows;
 use steps::buffers;
 
 // The answer: the place of the new vertex, and how many bytes of the code across stand at the buffer's front.
@@ -41,13 +42,13 @@ fn cross_inside(code: &[u8], d: usize, k: usize, facet: u8, out: &mut [u8]) -> C
     if out.len() < length {
         return refused(REFUSED_SHORT);
     }
-    let own = check::own_byte(code, d);
     let i = common::size(facet);
+    let moved = moves::rearranged(fours::entries_of(code, d), d, k, i, check::own_byte(code, d));
     buffers::copy_front(code, length, out);
-    let place = moves::rearrange(out, k, i, own);
+    rows::put(moved.entries, d, out);
     Crossed {
         refusal: DONE,
-        place: place as u8,
+        place: moved.place as u8,
         length,
     }
 }

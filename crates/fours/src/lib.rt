@@ -1,5 +1,7 @@
 // Entries by value: four named entries. A dimension with fewer axes leaves the last ones 0. Nothing here branches on a place
 // or on an entry: which step comes is not foreseen, and a branch on it costs more than both sides.
+pub mod rows; // rows.rt: what a crossing does to entries, and entries written
+
 ghost use mathlib.Core.Path.{_≡_};
 ghost use mathlib.Core.Bool.{cond};
 ghost use Prim.Native.Nat.{suc, _+_, _≤_, _<_};
@@ -35,7 +37,7 @@ pub fn pick(b: bool, x: u8, y: u8) -> u8
 }
 
 // The entry at a place.
-fn entry(e: Four, n: usize) -> u8
+pub fn entry(e: Four, n: usize) -> u8
     requires { ⌜ n < 4 ⌝ }
     ensures { λ r. ⌜ r ≡ getD (four e) n 0 ⌝ }
 {

@@ -1,16 +1,24 @@
-// The moves of a crossing on a code in a lent buffer: the entries rearranged where it stays in its box, the orthants changed by
-// carry where it leaves the box for the one beside it.
+// The moves of a crossing: the entries rearranged by value where it stays in its box, the orthants changed by carry where it leaves
+// the box for the one beside it.
 ghost use mathlib.Core.Path.{_≡_};
-ghost use mathlib.Core.Bool.{cond};
-ghost use Prim.Native.Nat.{_+_, _-_, _≤_, _<_};
+ghost use mathlib.Core.Bool.{true, not, cond};
+ghost use Prim.Native.Nat.{_≤_, _<_};
+ghost use lib.Dec.{eqb, ltb};
 ghost use lib.ListN.{length, drop};
 ghost use Rattle.bisection.specs.Codes.{axis, minus};
-ghost use Rattle.bisection.specs.Theorems.Table.{left, right, trade, swap, exchanged, flipped, runsOut};
-ghost use Rattle.steps.specs.Buffers.{atPlace};
+ghost use Rattle.bisection.specs.Theorems.Table.{flipped, runsOut};
+ghost use Rattle.fours.specs.Fours.{four};
 ghost use Rattle.moves.specs.Carrying.{carriedIn};
-ghost use Rattle.moves.specs.Rearranging.{traded, ownNext, Rearranges, Movable, MovableAt, within};
+ghost use Rattle.moves.specs.Rearranging.{ownNext, Rearranges, Movable, within};
 use entries::check;
-use steps::buffers;
+use fours::Four;
+use fours::rows;
+
+// The entries of the cell across, and the place of its new vertex.
+pub struct Moved {
+    pub entries: Four,
+    pub place: usize,
+}
 
 // The orthant byte with its bit of the axis flipped.
 fn flip(orthant: u8, axis: u8) -> u8
@@ -53,65 +61,39 @@ pub fn carry(buf: &mut [u8], from: usize, n: usize, e: u8)
     }
 }
 
-// Entries i and i + 1 change places; they stand at places i - 1 and i from place 2 on.
-fn exchange(buf: &mut [u8], i: usize)
-    requires { ⌜ (1 ≤ i) × (2 + i < length (now buf)) ⌝ }
-    ensures { λ r. ⌜ now (buf .exit) ≡ atPlace 2 (exchanged (i - 1) i) (now (buf .entry)) ⌝ }
+// One of two places.
+fn either(b: bool, x: usize, y: usize) -> usize
+    ensures { λ r. ⌜ r ≡ cond b x y ⌝ }
 {
-    let one = buf[1 + i];
-    let other = buf[2 + i];
-    buf[1 + i] = other;
-    buf[2 + i] = one;
+    if b {
+        return x;
+    }
+    y
 }
 
-// Entries 1 and k + 1 change places, both negated.
-fn trade_first(buf: &mut [u8], k: usize)
-    requires { ⌜ MovableAt k (now buf) ⌝ }
-    ensures { λ r. ⌜ now (buf .exit) ≡ atPlace 2 (traded k) (now (buf .entry)) ⌝ }
+// Across a facet i other than 0 two entries change places, but across facet k only where entry k + 1 has the box's own sign.
+fn exchanges(own: bool, i: usize, k: usize) -> bool
+    ensures { λ r. ⌜ r ≡ cond own true (not (eqb i k)) ⌝ }
 {
-    let one = entries::negate(buf[2]);
-    let other = entries::negate(buf[2 + k]);
-    buf[2] = other;
-    buf[2 + k] = one;
+    if own {
+        return true;
+    }
+    i != k
 }
 
-// Across facet 0, by the sign of entry k + 1 against the box's own.
-fn across_first(buf: &mut [u8], k: usize, own: u8) -> usize
-    requires { ⌜ MovableAt k (now buf) ⌝ }
-    ensures { λ r. ⌜ Rearranges k (cond (ownNext k own (now (buf .entry))) left trade) (now (buf .entry)) r (now (buf .exit)) ⌝ }
+// The entries of the cell across a facet that stays in the box. Every row is computed and one is picked: which one it is depends on
+// the facet, the depth and a sign, and is not foreseen. Where the dimension has no entry k + 1 the second one stands for it.
+pub fn rearranged(e: Four, d: usize, k: usize, i: usize, own: u8) -> Moved
+    requires { ⌜ Movable d k i e ⌝ }
+    ensures { λ r. ⌜ Rearranges k (within k i (ownNext k own (four e))) (four e) (r .place) (four (r .entries)) ⌝ }
 {
-    if check::same_sign(buf[2 + k], own) {
-        buffers::turn(buf, 2, k);
-        return k;
+    let n = either(k < d, k, 1);
+    let own_next = check::same_sign(fours::entry(e, n), own);
+    let exchange = exchanges(own_next, i, k);
+    let first = rows::chosen(own_next, fours::turned_on(e, n), rows::traded_first(e, n));
+    let other = rows::chosen(exchange, rows::swapped(e, i), fours::turned_back(e, n));
+    Moved {
+        entries: rows::chosen(i == 0, first, other),
+        place: either(i == 0, either(own_next, k, 0), either(exchange, i, 0)),
     }
-    trade_first(buf, k);
-    0
-}
-
-// Across facet k, by the same sign.
-fn across_split(buf: &mut [u8], k: usize, own: u8) -> usize
-    requires { ⌜ MovableAt k (now buf) ⌝ }
-    ensures { λ r. ⌜ Rearranges k (cond (ownNext k own (now (buf .entry))) (swap k) right) (now (buf .entry)) r (now (buf .exit)) ⌝ }
-{
-    if check::same_sign(buf[2 + k], own) {
-        exchange(buf, k);
-        return k;
-    }
-    buffers::unturn(buf, 2, k);
-    0
-}
-
-// The entries of the cell across a facet that stays in the box; gives the place of the new vertex.
-pub fn rearrange(buf: &mut [u8], k: usize, i: usize, own: u8) -> usize
-    requires { ⌜ Movable k i (now buf) ⌝ }
-    ensures { λ r. ⌜ Rearranges k (within k i (ownNext k own (now (buf .entry)))) (now (buf .entry)) r (now (buf .exit)) ⌝ }
-{
-    if i == 0 {
-        return across_first(buf, k, own);
-    }
-    if i == k {
-        return across_split(buf, k, own);
-    }
-    exchange(buf, i);
-    i
 }
