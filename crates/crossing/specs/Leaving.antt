@@ -1,12 +1,13 @@
 -- A crossing that leaves the box: facet d, and facet 0 at the start of a level. One entry changes its sign, the box
 -- moves against an entry, and the new vertex stands where the old one did.
 use mathlib.Core.Path.{_≡_, refl, sym, ap, _∙_, subst}
-use mathlib.Core.Bool.{Bool, true, false, not}
+use mathlib.Core.Bool.{Bool, true, false, not, cond}
+use mathlib.Core.Logic.{_≢_}
 use mathlib.Core.List.{List, [], _∷_, _++_, append-assoc}
 use Prim.Native.Nat.{ℕ, suc, _+_, _-_, _≤_, _<_}
 use native.Mathlib.Omega.{arith}
-use native.Mathlib.Decide.{decLt}
-use lib.Dec.{T}
+use native.Mathlib.Decide.{decLt, ℕ-discrete}
+use lib.Dec.{T, eqb}
 use lib.ListN.{length, getD, take, drop, set, length-append}
 use lib.Seq.{slice, drop-length, set-append-left, take-at, drop-at}
 use borrow.Author.Tests.{eq-eqb, ne-eqb}
@@ -23,7 +24,7 @@ use Rattle.steps.specs.Copying.{whole-front}
 use Rattle.moves.specs.Carrying.{carriedIn}
 use Rattle.crossing.specs.declared.Crossed.{Crossed}
 use Rattle.crossing.specs.Outcome.{Crosses}
-use Rattle.crossing.specs.Answers.{Bare, cross-face, cross-short, cross-done}
+use Rattle.crossing.specs.Answers.{leavesBox, leaves-first, leaves-last, Bare, cross-face, cross-short, cross-done}
 
 -- the row: what the table says, told by the entry e against which the box moves and the place whose sign changes
 pub record Leaving (code : List ℕ) (d at e i : ℕ) : Type 0 where
@@ -136,24 +137,47 @@ module _ (code : List ℕ) {x a n : ℕ} (e : x ≡ codeRefusal code) (z : x ≡
   pub facing-some : 1 ≤ n
   facing-some = omega (arith, some code p, axes)
 
-  pub facing-last : 1 + n < length code
-  facing-last = omega (arith, long code p, axes)
+  -- as the code has the facet, the split place and that the crossing leaves
+  module _ {i j k D : ℕ} {t : Bool} (f : j ≡ i) (deep : D ≡ depthOf code) (split : k ≡ splitPlace a D) (l : t ≡ leavesBox j n k) (q : t ≡ true)
+      {at : ℕ} (there : at ≡ cond (eqb j 0) 0 (n - 1)) where
+    at-first : j ≡ 0 → at ≡ 0
+    at-first z = there ∙ subst (λ (b : Bool). cond b 0 (n - 1) ≡ 0) (sym (eq-eqb j 0 z)) refl
 
-  pub facing-first : 2 < length code
-  facing-first = omega (arith, long code p, some code p)
+    at-last : j ≢ 0 → at ≡ n - 1
+    at-last z = there ∙ subst (λ (b : Bool). cond b 0 (n - 1) ≡ n - 1) (sym (ne-eqb j 0 z)) refl
 
-  pub facing-axis : 1 ≤ axis (getD code 2 0)
-  facing-axis = leaving-low code p 0 (omega (arith, some code p))
+    place : at < n
+    place = go (ℕ-discrete j 0)
+      where
+        go : Dec (j ≡ 0) → at < n
+        go (yes z) = omega (arith, at-first z, facing-some)
+        go (no z) = omega (arith, at-last z, facing-some)
 
-  pub leaving-last : (i j v : ℕ) → j ≡ i → j ≡ n → v ≡ getD code (1 + n) 0 → Leaving code n (n - 1) v i
-  leaving-last i j v f h q = subst (λ (x : ℕ). Leaving code x (x - 1) v i) (sym axes) (leaving-near code p i v (sym f ∙ h ∙ axes) (q ∙ ap (λ (t : ℕ). getD code t 0) there))
-    where
-      there : 1 + n ≡ 2 + (dimensionOf code - 1)
-      there = omega (arith, some code p, axes)
+    pub facing-few : 2 + at ≤ 5
+    facing-few = omega (arith, place, axes, checked code p .range .few)
 
-  pub leaving-first : (i j s v D : ℕ) → j ≡ i → j ≡ 0 → D ≡ depthOf code → s ≡ splitPlace a D → s ≡ n → v ≡ negated (getD code 2 0) → Leaving code n 0 v i
-  leaving-first i j s v D f h deep split t q = subst (λ (x : ℕ). Leaving code x 0 v i) (sym axes)
-      (leaving-far code p i v (sym f ∙ h) (sym (split ∙ rw (named, deep) refl) ∙ t ∙ axes) q)
+    pub facing-at : 2 + at < length code
+    facing-at = omega (arith, place, long code p, axes)
+
+    module _ {o : ℕ} (v : o ≡ getD code (2 + at) 0) where
+      pub facing-axis : 1 ≤ axis o
+      facing-axis = rw v (leaving-low code p at (omega (arith, place, axes)))
+
+      pub leaving : {y b : ℕ} → y ≡ negated o → b ≡ cond (eqb j 0) y o → Leaving code n at b i
+      leaving {y} {b} w u = go (ℕ-discrete j 0)
+        where
+          first : j ≡ 0 → b ≡ negated (getD code (2 + 0) 0)
+          first z = u ∙ subst (λ (c : Bool). cond c y o ≡ y) (sym (eq-eqb j 0 z)) refl ∙ w ∙ ap negated (v ∙ ap (λ (h : ℕ). getD code (2 + h) 0) (at-first z))
+
+          last : j ≢ 0 → b ≡ getD code (2 + (dimensionOf code - 1)) 0
+          last z = u ∙ subst (λ (c : Bool). cond c y o ≡ o) (sym (ne-eqb j 0 z)) refl ∙ v ∙ ap (λ (h : ℕ). getD code (2 + h) 0) (at-last z ∙ ap (λ (h : ℕ). h - 1) axes)
+
+          start : j ≡ 0 → splitPlace (dimensionOf code) (depthOf code) ≡ dimensionOf code
+          start z = rw (← named, ← deep, ← split) (leaves-first j n k (sym l ∙ q) z (omega (arith, facing-some)) ∙ same)
+
+          go : Dec (j ≡ 0) → Leaving code n at b i
+          go (yes z) = rw (axes, at-first z) (leaving-far code p i b (sym f ∙ z) (start z) (first z))
+          go (no z) = rw (at-last z, axes) (leaving-near code p i b (sym f ∙ leaves-last j n k (sym l ∙ q) z ∙ axes) (last z))
 
 -- the carry through orthants that stand behind a head and before the rest
 carried-held : (up : Bool) (a : ℕ) (head os rest : List ℕ) (from n : ℕ) → length head ≡ from → length (head ++ os) ≡ n

@@ -29,7 +29,7 @@ use Rattle.fours.specs.Laws.{pasted}
 use Rattle.moves.specs.Rearranging.{ownNext, Rearranges, within, within-is, Movable}
 use Rattle.crossing.specs.declared.Crossed.{Crossed}
 use Rattle.crossing.specs.Outcome.{Crosses}
-use Rattle.crossing.specs.Answers.{Bare, cross-short, cross-done, entries-append, table-place, code-pasted}
+use Rattle.crossing.specs.Answers.{leavesBox, leaves-not, Bare, cross-short, cross-done, entries-append, table-place, code-pasted}
 
 pub record Staying (code : List ℕ) (d k i : ℕ) : Type 0 where
   pub passes : codeRefusal code ≡ done
@@ -39,18 +39,21 @@ pub record Staying (code : List ℕ) (d k i : ℕ) : Type 0 where
   pub first : i ≡ 0 → k < d
 
 -- from the numbers that the code computes
-pub staying : (code : List ℕ) {x a d D k i j : ℕ} → x ≡ codeRefusal code → x ≡ done → a ≡ dimensionOf code → d ≡ a → D ≡ depthOf code → k ≡ splitPlace a D → j ≡ i
-    → j ≤ d → j ≢ d → (j ≡ 0 → k ≢ d) → Staying code d k i
-staying code {x} {a} {d} {D} {k} {i} {j} e z named same deep split f h n w = record {
+pub staying : (code : List ℕ) {x a d D k i j : ℕ} {t : Bool} → x ≡ codeRefusal code → x ≡ done → a ≡ dimensionOf code → d ≡ a → D ≡ depthOf code → k ≡ splitPlace a D → j ≡ i
+    → j ≤ d → t ≡ leavesBox j d k → t ≡ false → Staying code d k i
+staying code {x} {a} {d} {D} {k} {i} {j} e z named same deep split f h l q = record {
   passes = p;
   axes = same ∙ named;
   split = place;
-  inside = omega arith;
-  first = λ q. less (w (f ∙ q));
+  inside = omega (arith, stays .0);
+  first = λ q. less (stays .1 (f ∙ q));
 }
   where
     p : codeRefusal code ≡ done
     p = sym e ∙ z
+
+    stays : (j ≢ d) × (j ≡ 0 → k ≢ d)
+    stays = leaves-not j d k (sym l ∙ q)
 
     place : k ≡ splitPlace (dimensionOf code) (depthOf code)
     place = split ∙ rw (named, deep) refl

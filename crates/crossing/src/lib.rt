@@ -4,6 +4,7 @@
 // box beside it, where the orthants change by carry.
 ghost use mathlib.Core.Path.{_≡_};
 ghost use Rattle.crossing.specs.Outcome.{Crosses};
+ghost use Rattle.crossing.specs.Answers.{leavesBox};
 ghost use Rattle.crossing.specs.Leaving.{Leaving};
 ghost use Rattle.crossing.specs.Staying.{Staying};
 use bisection::DONE;
@@ -77,6 +78,19 @@ fn cross_outside(code: &[u8], d: usize, at: usize, e: u8, facet: u8, out: &mut [
     }
 }
 
+// The crossing leaves the box: across facet d, and across facet 0 at the start of a level.
+fn leaves(i: usize, d: usize, k: usize) -> bool
+    ensures { λ r. ⌜ r ≡ leavesBox i d k ⌝ }
+{
+    if i == d {
+        return true;
+    }
+    if i == 0 {
+        return k == d;
+    }
+    false
+}
+
 // Across a facet lies a cell that has all its vertices, or a face of the cube.
 pub fn cross(code: &[u8], facet: u8, out: &mut [u8]) -> Crossed
     ensures { λ r. ⌜ Crosses (now (code .entry)) facet (now (out .entry)) r (now (out .exit)) ⌝ }
@@ -91,14 +105,12 @@ pub fn cross(code: &[u8], facet: u8, out: &mut [u8]) -> Crossed
     if d < i {
         return refused(REFUSED_STEP);
     }
-    if i == d {
-        return cross_outside(code, d, d - 1, code[1 + d], facet, out);
-    }
     let k = dim.split_place(check::depth_of(code));
-    if i == 0 {
-        if k == d {
-            return cross_outside(code, d, 0, entries::negate(code[2]), facet, out);
-        }
+    if leaves(i, d, k) {
+        let at = moves::either(i == 0, 0, d - 1);
+        let entry = code[2 + at];
+        let e = fours::pick(i == 0, entries::negate(entry), entry);
+        return cross_outside(code, d, at, e, facet, out);
     }
     cross_inside(code, d, k, facet, out)
 }

@@ -18,12 +18,15 @@ use Rattle.entries.specs.Walks.{placeIn}
 use Rattle.fours.specs.Fours.{four, noEntries, Holds, SameFour, BackIs}
 
 -- the entry that a place has
-pub entry-is : (e : Four) (n : ℕ) → n < 4 → cond (eqb n 0) (e .first) (cond (eqb n 1) (e .second) (cond (eqb n 2) (e .third) (e .fourth))) ≡ getD (four e) n 0
-entry-is e zero h = refl
-entry-is e (suc zero) h = refl
-entry-is e (suc (suc zero)) h = refl
-entry-is e (suc (suc (suc zero))) h = refl
-entry-is e (suc (suc (suc (suc n)))) h = absurd (omega arith)
+entry-all : (e : Four) (n : ℕ) → n < 4 → cond (eqb n 0) (e .first) (cond (eqb n 1) (e .second) (cond (eqb n 2) (e .third) (e .fourth))) ≡ getD (four e) n 0
+entry-all e zero h = refl
+entry-all e (suc zero) h = refl
+entry-all e (suc (suc zero)) h = refl
+entry-all e (suc (suc (suc zero))) h = refl
+entry-all e (suc (suc (suc (suc n)))) h = absurd (omega arith)
+
+pub entry-is : (e : Four) {n x y z : ℕ} → n < 4 → z ≡ cond (eqb n 2) (e .third) (e .fourth) → y ≡ cond (eqb n 1) (e .second) z → x ≡ cond (eqb n 0) (e .first) y → x ≡ getD (four e) n 0
+entry-is e {n} h f g k = rw (k, g, f) (entry-all e n h)
 
 abbrev pub fourOf : ℕ → ℕ → ℕ → ℕ → Four
 fourOf a b c d = record { first = a; second = b; third = c; fourth = d }

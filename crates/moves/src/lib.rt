@@ -62,7 +62,7 @@ pub fn carry(buf: &mut [u8], from: usize, n: usize, e: u8)
 }
 
 // One of two places.
-fn either(b: bool, x: usize, y: usize) -> usize
+pub fn either(b: bool, x: usize, y: usize) -> usize
     ensures { λ r. ⌜ r ≡ cond b x y ⌝ }
 {
     if b {
