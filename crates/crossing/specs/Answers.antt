@@ -1,13 +1,11 @@
 -- The ways out of a crossing, each with what is known there; and a change of a name's entries where more bytes follow them.
 use mathlib.Core.Path.{_≡_, refl, sym, ap, _∙_, subst}
-use mathlib.Core.Bool.{Bool, true, false, cond}
+use mathlib.Core.Bool.{true, false}
 use mathlib.Core.List.{List, _∷_, _++_, append-assoc}
 use mathlib.Core.Logic.{_≢_}
 use Prim.Native.Nat.{ℕ, suc, _+_, _-_, _≤_, _<_}
 use native.Mathlib.Omega.{arith}
-use native.Mathlib.Decide.{ℕ-discrete}
-use lib.Dec.{T, eqb}
-use borrow.Author.Tests.{eq-eqb, ne-eqb, eqb-true}
+use lib.Dec.{T}
 use lib.ListN.{length, getD, take, drop, set, length-set, List·getD-append}
 use lib.Seq.{set-append-left, drop-at, paste}
 use Rattle.bisection.specs.Cells.{cellOf}
@@ -30,27 +28,6 @@ use Rattle.crossing.specs.Outcome.{Refuses, Walled, Beyond, Meets, wall,
 -- the cell across has a code of the same length
 pub shares-size : {i : ℕ} {code code' : List ℕ} → Shares i code code' → length code' ≡ length code
 shares-size {i} {code} {code'} s = checked code' (cell-passes (s .cell')) .size ∙ rw (← s .dimension, ← s .depth) (sym (checked code (cell-passes (s .cell)) .size))
-
--- the rows that leave the box
-abbrev pub leavesBox : ℕ → ℕ → ℕ → Bool
-leavesBox i d k = cond (eqb i d) true (cond (eqb i 0) (eqb k d) false)
-
-module _ (i d k : ℕ) where
-  pub leaves-not : leavesBox i d k ≡ false → (i ≢ d) × (i ≡ 0 → k ≢ d)
-  leaves-not h = (last, λ z e. let on : true ≡ leavesBox i d k = rw (ne-eqb i d last, eq-eqb i 0 z, eq-eqb k d e) refl in subst T (on ∙ h) tt)
-    where
-      last : i ≢ d
-      last e = let on : true ≡ leavesBox i d k = rw (eq-eqb i d e) refl in subst T (on ∙ h) tt
-
-  pub leaves-last : leavesBox i d k ≡ true → i ≢ 0 → i ≡ d
-  leaves-last h z = go (ℕ-discrete i d)
-    where
-      go : Dec (i ≡ d) → i ≡ d
-      go (yes e) = e
-      go (no e) = let off : leavesBox i d k ≡ false = rw (ne-eqb i d e, ne-eqb i 0 z) refl in absurd (subst T (sym h ∙ off) tt)
-
-  pub leaves-first : leavesBox i d k ≡ true → i ≡ 0 → i ≢ d → k ≡ d
-  leaves-first h z n = let same : leavesBox i d k ≡ eqb k d = rw (ne-eqb i d n, eq-eqb i 0 z) refl in eqb-true k d (sym same ∙ h)
 
 -- a refusal's number, and nothing else
 abbrev pub Bare : ℕ → Crossed → Type 0

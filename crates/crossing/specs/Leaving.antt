@@ -24,7 +24,7 @@ use Rattle.steps.specs.Copying.{whole-front}
 use Rattle.moves.specs.Carrying.{carriedIn}
 use Rattle.crossing.specs.declared.Crossed.{Crossed}
 use Rattle.crossing.specs.Outcome.{Crosses}
-use Rattle.crossing.specs.Answers.{leavesBox, leaves-first, leaves-last, Bare, cross-face, cross-short, cross-done}
+use Rattle.crossing.specs.Answers.{Bare, cross-face, cross-short, cross-done}
 
 -- the row: what the table says, told by the entry e against which the box moves and the place whose sign changes
 pub record Leaving (code : List ℕ) (d at e i : ℕ) : Type 0 where
@@ -138,7 +138,7 @@ module _ (code : List ℕ) {x a n : ℕ} (e : x ≡ codeRefusal code) (z : x ≡
   facing-some = omega (arith, some code p, axes)
 
   -- as the code has the facet, the split place and that the crossing leaves
-  module _ {i j k D : ℕ} {t : Bool} (f : j ≡ i) (deep : D ≡ depthOf code) (split : k ≡ splitPlace a D) (l : t ≡ leavesBox j n k) (q : t ≡ true)
+  module _ {i j k D t : ℕ} (f : j ≡ i) (deep : D ≡ depthOf code) (split : k ≡ splitPlace a D) (l : t ≡ cond (eqb j 0) k j) (q : t ≡ n)
       {at : ℕ} (there : at ≡ cond (eqb j 0) 0 (n - 1)) where
     at-first : j ≡ 0 → at ≡ 0
     at-first z = there ∙ subst (λ (b : Bool). cond b 0 (n - 1) ≡ 0) (sym (eq-eqb j 0 z)) refl
@@ -173,11 +173,11 @@ module _ (code : List ℕ) {x a n : ℕ} (e : x ≡ codeRefusal code) (z : x ≡
           last z = u ∙ subst (λ (c : Bool). cond c y o ≡ o) (sym (ne-eqb j 0 z)) refl ∙ v ∙ ap (λ (h : ℕ). getD code (2 + h) 0) (at-last z ∙ ap (λ (h : ℕ). h - 1) axes)
 
           start : j ≡ 0 → splitPlace (dimensionOf code) (depthOf code) ≡ dimensionOf code
-          start z = rw (← named, ← deep, ← split) (leaves-first j n k (sym l ∙ q) z (omega (arith, facing-some)) ∙ same)
+          start z = rw (← named, ← deep, ← split) (subst (λ (c : Bool). cond c k j ≡ n) (eq-eqb j 0 z) (sym l ∙ q) ∙ same)
 
           go : Dec (j ≡ 0) → Leaving code n at b i
           go (yes z) = rw (axes, at-first z) (leaving-far code p i b (sym f ∙ z) (start z) (first z))
-          go (no z) = rw (at-last z, axes) (leaving-near code p i b (sym f ∙ leaves-last j n k (sym l ∙ q) z ∙ axes) (last z))
+          go (no z) = rw (at-last z, axes) (leaving-near code p i b (sym f ∙ subst (λ (c : Bool). cond c k j ≡ n) (ne-eqb j 0 z) (sym l ∙ q) ∙ axes) (last z))
 
 -- the carry through orthants that stand behind a head and before the rest
 carried-held : (up : Bool) (a : ℕ) (head os rest : List ℕ) (from n : ℕ) → length head ≡ from → length (head ++ os) ≡ n

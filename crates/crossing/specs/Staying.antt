@@ -10,7 +10,7 @@ use native.Mathlib.Decide.{decLt}
 use lib.Dec.{eqb}
 use lib.ListN.{length, getD, take, drop, length-append, List·getD-append}
 use lib.Seq.{take-at, drop-at, paste}
-use borrow.Author.Tests.{ne-eqb}
+use borrow.Author.Tests.{eq-eqb, ne-eqb}
 use Rattle.dimension.specs.Sizes.{codeLength, longestOfAll, splitPlace}
 use Rattle.dimension.specs.Laws.{split-range}
 use Rattle.bisection.specs.Codes.{axis, minus, high, Name, bytes, dimensionOf, depthOf, entriesOf, orthantsOf, partsOf}
@@ -29,7 +29,7 @@ use Rattle.fours.specs.Laws.{pasted}
 use Rattle.moves.specs.Rearranging.{ownNext, Rearranges, within, within-is, Movable}
 use Rattle.crossing.specs.declared.Crossed.{Crossed}
 use Rattle.crossing.specs.Outcome.{Crosses}
-use Rattle.crossing.specs.Answers.{leavesBox, leaves-not, Bare, cross-short, cross-done, entries-append, table-place, code-pasted}
+use Rattle.crossing.specs.Answers.{Bare, cross-short, cross-done, entries-append, table-place, code-pasted}
 
 pub record Staying (code : List ℕ) (d k i : ℕ) : Type 0 where
   pub passes : codeRefusal code ≡ done
@@ -39,24 +39,30 @@ pub record Staying (code : List ℕ) (d k i : ℕ) : Type 0 where
   pub first : i ≡ 0 → k < d
 
 -- from the numbers that the code computes
-pub staying : (code : List ℕ) {x a d D k i j : ℕ} {t : Bool} → x ≡ codeRefusal code → x ≡ done → a ≡ dimensionOf code → d ≡ a → D ≡ depthOf code → k ≡ splitPlace a D → j ≡ i
-    → j ≤ d → t ≡ leavesBox j d k → t ≡ false → Staying code d k i
-staying code {x} {a} {d} {D} {k} {i} {j} e z named same deep split f h l q = record {
+pub staying : (code : List ℕ) {x a d D k i j t : ℕ} → x ≡ codeRefusal code → x ≡ done → a ≡ dimensionOf code → d ≡ a → D ≡ depthOf code → k ≡ splitPlace a D → j ≡ i
+    → j ≤ d → t ≡ cond (eqb j 0) k j → t ≢ d → Staying code d k i
+staying code {x} {a} {d} {D} {k} {i} {j} e z named same deep split f h l w = record {
   passes = p;
   axes = same ∙ named;
   split = place;
-  inside = omega (arith, stays .0);
-  first = λ q. less (stays .1 (f ∙ q));
+  inside = omega (arith, last);
+  first = λ q. less (start (f ∙ q));
 }
   where
     p : codeRefusal code ≡ done
     p = sym e ∙ z
 
-    stays : (j ≢ d) × (j ≡ 0 → k ≢ d)
-    stays = leaves-not j d k (sym l ∙ q)
+    start : j ≡ 0 → k ≢ d
+    start q v = w (l ∙ subst (λ (c : Bool). cond c k j ≡ d) (sym (eq-eqb j 0 q)) v)
 
     place : k ≡ splitPlace (dimensionOf code) (depthOf code)
     place = split ∙ rw (named, deep) refl
+
+    two : 2 ≤ d
+    two = omega (arith, same, named, checked code p .range .two)
+
+    last : j ≢ d
+    last v = w (l ∙ subst (λ (c : Bool). cond c k j ≡ d) (sym (ne-eqb j 0 (omega (arith, two)))) v)
 
     less : k ≢ d → k < d
     less u = omega (arith, place, split-range (dimensionOf code) (depthOf code) (omega (arith, checked code p .range .two)) .1)

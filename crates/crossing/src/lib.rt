@@ -4,7 +4,6 @@
 // box beside it, where the orthants change by carry.
 ghost use mathlib.Core.Path.{_≡_};
 ghost use Rattle.crossing.specs.Outcome.{Crosses};
-ghost use Rattle.crossing.specs.Answers.{leavesBox};
 ghost use Rattle.crossing.specs.Leaving.{Leaving};
 ghost use Rattle.crossing.specs.Staying.{Staying};
 use bisection::DONE;
@@ -78,19 +77,6 @@ fn cross_outside(code: &[u8], d: usize, at: usize, e: u8, facet: u8, out: &mut [
     }
 }
 
-// The crossing leaves the box: across facet d, and across facet 0 at the start of a level.
-fn leaves(i: usize, d: usize, k: usize) -> bool
-    ensures { λ r. ⌜ r ≡ leavesBox i d k ⌝ }
-{
-    if i == d {
-        return true;
-    }
-    if i == 0 {
-        return k == d;
-    }
-    false
-}
-
 // Across a facet lies a cell that has all its vertices, or a face of the cube.
 pub fn cross(code: &[u8], facet: u8, out: &mut [u8]) -> Crossed
     ensures { λ r. ⌜ Crosses (now (code .entry)) facet (now (out .entry)) r (now (out .exit)) ⌝ }
@@ -106,7 +92,8 @@ pub fn cross(code: &[u8], facet: u8, out: &mut [u8]) -> Crossed
         return refused(REFUSED_STEP);
     }
     let k = dim.split_place(check::depth_of(code));
-    if leaves(i, d, k) {
+    // across facet d, and across facet 0 at the start of a level
+    if moves::either(i == 0, k, i) == d {
         let at = moves::either(i == 0, 0, d - 1);
         let entry = code[2 + at];
         let e = fours::pick(i == 0, entries::negate(entry), entry);

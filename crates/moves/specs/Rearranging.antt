@@ -112,19 +112,23 @@ always true = refl
 always false = refl
 
 -- as the code has each of them
-module _ {d k i : ℕ} (own : ℕ) {e : Four} (m : Movable d k i e) {n x : ℕ} {b w : Bool} (f : n ≡ cond (ltb k d) k 1) (q : x ≡ getD (four e) n 0)
-    (o : b ≡ sameSign (minus x) (high own (axis x))) (g : w ≡ cond b true (not (eqb i k))) where
-  pub rearranged-is : {l t a s u c r : List ℕ} → l ≡ turned (suc n) (four e) → t ≡ traded n (four e) → a ≡ cond b l t
-      → s ≡ exchanged (i - 1) i (four e) → u ≡ unturned n (four e) → c ≡ cond w s u → r ≡ cond (eqb i 0) a c
-      → {y z p : ℕ} → y ≡ cond b k 0 → z ≡ cond w i 0 → p ≡ cond (eqb i 0) y z → Rearranges k (within k i (ownNext k own (four e))) (four e) p r
-  rearranged-is {r = r} l t a s u c h {p = p} y z j = go (decLt k d)
+module _ {d k i : ℕ} (own : ℕ) {e : Four} (m : Movable d k i e) {n x : ℕ} {b : Bool} (f : n ≡ cond (ltb k d) k 1) (q : x ≡ getD (four e) n 0)
+    (o : b ≡ sameSign (minus x) (high own (axis x))) where
+  picked : k < d → {p : ℕ} {r : List ℕ} → p ≡ placeOf k i (four e) b → r ≡ rowOf k i (four e) b → Rearranges k (within k i (ownNext k own (four e))) (four e) p r
+  picked v g h = rw (g, h) (subst (λ (t : Bool). Rearranges k (within k i t) (four e) (placeOf k i (four e) b) (rowOf k i (four e) b))
+      (o ∙ ap (λ (y : ℕ). sameSign (minus y) (high own (axis y))) (q ∙ ap (λ (t : ℕ). getD (four e) t 0) (next-under m f v))) (rows-are k i (four e) b))
+
+  pub rearranged-first : i ≡ 0 → {l t r : List ℕ} {p : ℕ} → l ≡ turned (suc n) (four e) → t ≡ traded n (four e) → r ≡ cond b l t → p ≡ cond b k 0
+      → Rearranges k (within k i (ownNext k own (four e))) (four e) p r
+  rearranged-first z l t h j = picked (m .first z) (rw (eq-eqb i 0 z) j) (rw (eq-eqb i 0 z, h, l, t, next-under m f (m .first z)) refl)
+
+  pub rearranged-other : i ≢ 0 → {w : Bool} {s u r : List ℕ} {p : ℕ} → w ≡ cond b true (not (eqb i k)) → s ≡ exchanged (i - 1) i (four e) → u ≡ unturned n (four e) → r ≡ cond w s u
+      → p ≡ cond w i 0 → Rearranges k (within k i (ownNext k own (four e))) (four e) p r
+  rearranged-other z {r = r} {p = p} g s u h j = go (decLt k d)
     where
       go : Dec (k < d) → Rearranges k (within k i (ownNext k own (four e))) (four e) p r
-      go (yes v) = rw (h, a, l, t, c, s, u, j, y, z, g, next-under m f v) (subst (λ (t : Bool). Rearranges k (within k i t) (four e) (placeOf k i (four e) b) (rowOf k i (four e) b)) signs (rows-are k i (four e) b))
-        where
-          signs : b ≡ ownNext k own (four e)
-          signs = o ∙ ap (λ (y : ℕ). sameSign (minus y) (high own (axis y))) (q ∙ ap (λ (t : ℕ). getD (four e) t 0) (next-under m f v))
-      go (no v) = rw (h, c, s, j, z, g, ne-eqb i k other, always b) (unfold within entriesBy newAt in rw (ne-eqb i 0 (λ z. v (m .first z)), ne-eqb i k other) (record { entries = λ d. refl; new = λ d. refl }))
+      go (yes v) = picked v (rw (ne-eqb i 0 z, ← g) j) (rw (ne-eqb i 0 z, ← g, h, s, u, next-under m f v) refl)
+      go (no v) = rw (h, s, j, g, ne-eqb i k other, always b) (unfold within entriesBy newAt in rw (ne-eqb i 0 z, ne-eqb i k other) (record { entries = λ d. refl; new = λ d. refl }))
         where
           other : i ≢ k
           other t = v (omega (arith, m .inside))

@@ -81,19 +81,24 @@ fn exchanges(own: bool, i: usize, k: usize) -> bool
     i != k
 }
 
-// The entries of the cell across a facet that stays in the box. Every row is computed and one is picked: which one it is depends on
-// the facet, the depth and a sign, and is not foreseen. Where the dimension has no entry k + 1 the second one stands for it.
+// The entries of the cell across a facet that stays in the box. The rows of facet 0, and those of the others, are both computed and
+// one is picked: which it is depends on a sign, and is not foreseen. Where the dimension has no entry k + 1 the second one stands
+// for it.
 pub fn rearranged(e: Four, d: usize, k: usize, i: usize, own: u8) -> Moved
     requires { ⌜ Movable d k i e ⌝ }
     ensures { λ r. ⌜ Rearranges k (within k i (ownNext k own (four e))) (four e) (r .place) (four (r .entries)) ⌝ }
 {
     let n = either(k < d, k, 1);
     let own_next = check::same_sign(fours::entry(e, n), own);
+    if i == 0 {
+        return Moved {
+            entries: rows::chosen(own_next, fours::turned_on(e, n), rows::traded_first(e, n)),
+            place: either(own_next, k, 0),
+        };
+    }
     let exchange = exchanges(own_next, i, k);
-    let first = rows::chosen(own_next, fours::turned_on(e, n), rows::traded_first(e, n));
-    let other = rows::chosen(exchange, rows::swapped(e, i), fours::turned_back(e, n));
     Moved {
-        entries: rows::chosen(i == 0, first, other),
-        place: either(i == 0, either(own_next, k, 0), either(exchange, i, 0)),
+        entries: rows::chosen(exchange, rows::swapped(e, i), fours::turned_back(e, n)),
+        place: either(exchange, i, 0),
     }
 }

@@ -14,8 +14,26 @@ add-entry c =
     let size = row .before .before .before .before in
     let known = size .before .before in
     let few = facing-few _ (known .before .before .code-check .ensures) (known .before .if1 .left) (known .dimension-of .ensures) (size .before .axes .ensures)
-        (size .size .ensures) (row .before .before .depth-of .ensures) (row .before .split-place .ensures) (row .leaves .ensures) (c .before .if3 .taken) (c .either .ensures) in
+        (size .size .ensures) (row .before .before .depth-of .ensures) (row .before .split-place .ensures) (row .either .ensures) (c .before .if3 .taken) (c .either2 .ensures) in
     omega (arith, few)
+
+shared-slice-read-entry : tie.Need-shared-slice-read-entry
+shared-slice-read-entry c =
+    let read = c .before in
+    let row = read .before .before in
+    let size = row .before .before .before .before in
+    let known = size .before .before in
+    facing-at _ (known .before .before .code-check .ensures) (known .before .if1 .left) (known .dimension-of .ensures) (size .before .axes .ensures)
+    (size .size .ensures) (row .before .before .depth-of .ensures) (row .before .split-place .ensures) (row .either .ensures) (read .before .if3 .taken) (read .either2 .ensures)
+
+negate-requires : tie.Need-negate-requires
+negate-requires c κs =
+    let read = c .before in
+    let row = read .before .before in
+    let size = row .before .before .before .before in
+    let known = size .before .before in
+    facing-axis _ (known .before .before .code-check .ensures) (known .before .if1 .left) (known .dimension-of .ensures) (size .before .axes .ensures)
+    (size .size .ensures) (row .before .before .depth-of .ensures) (row .before .split-place .ensures) (row .either .ensures) (read .before .if3 .taken) (read .either2 .ensures) refl
 
 cross-outside-requires : tie.Need-cross-outside-requires
 cross-outside-requires c κs =
@@ -24,7 +42,7 @@ cross-outside-requires c κs =
     let size = row .before .before .before .before in
     let known = size .before .before in
     leaving _ (known .before .before .code-check .ensures) (known .before .if1 .left) (known .dimension-of .ensures) (size .before .axes .ensures)
-    (size .size .ensures) (row .before .before .depth-of .ensures) (row .before .split-place .ensures) (row .leaves .ensures) (read .before .if3 .taken) (read .either .ensures)
+    (size .size .ensures) (row .before .before .depth-of .ensures) (row .before .split-place .ensures) (row .either .ensures) (read .before .if3 .taken) (read .either2 .ensures)
     refl (c .before .before .negate .ensures) (c .before .pick .ensures)
 
 pub cross-spec : {M : Type 1} → statement M
@@ -45,8 +63,8 @@ cross-spec =
     (λ c. search (needs, facing-some))
     (λ c κs. search needs)
     add-entry
-    (λ c. search (needs, facing-at))
-    (λ c κs. search (needs, facing-axis))
+    shared-slice-read-entry
+    negate-requires
     (λ c κs. search needs)
     cross-outside-requires
     (λ c. search needs)
