@@ -11,7 +11,6 @@ use bisection::REFUSED_FACE;
 use bisection::REFUSED_SHORT;
 use bisection::REFUSED_STEP;
 use entries::check;
-use fours::rows;
 use steps::buffers;
 
 // The answer: the place of the new vertex, and how many bytes of the code across stand at the buffer's front.
@@ -43,9 +42,15 @@ fn cross_inside(code: &[u8], d: usize, k: usize, facet: u8, out: &mut [u8]) -> C
         return refused(REFUSED_SHORT);
     }
     let i = common::size(facet);
-    let moved = moves::rearranged(fours::entries_of(code, d), d, k, i, check::own_byte(code, d));
+    let moved = moves::rearranged(
+        fours::entries_of(code, 2, d),
+        d,
+        k,
+        i,
+        check::own_byte(code, d),
+    );
     buffers::copy_front(code, length, out);
-    rows::put(moved.entries, d, out);
+    fours::write(moved.entries, d, out, 2);
     Crossed {
         refusal: DONE,
         place: moved.place as u8,

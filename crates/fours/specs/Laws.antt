@@ -11,7 +11,7 @@ use lib.Seq.{paste, take-at, take-set-le, drop-set-add, drop-drop, getD-drop}
 use borrow.Author.Tests.{eq-eqb, ne-eqb, eqb-true, lt-ltb, le-ltb}
 use Rattle.bisection.specs.Codes.{axis, minus, negated, turned, stepped, high}
 use Rattle.bisection.specs.Refusals.{sameSign}
-use Rattle.bisection.specs.Theorems.Entries.{Signed, unturned, turned-append, unturned-append, signed-turned, signed-unturned}
+use Rattle.bisection.specs.Theorems.Entries.{unturned, turned-append, unturned-append, signed-turned, signed-unturned}
 use Rattle.bisection.specs.Theorems.Passing.{unstepped}
 use Rattle.fours.specs.declared.Four.{Four}
 use Rattle.entries.specs.Walks.{placeIn}
@@ -121,13 +121,18 @@ module _ (l : List ℕ) (at d : ℕ) (two : 2 ≤ d) (few : d ≤ 4) (r : at + d
     before = rw (
       take-set-le at (set (set (set l (at + placeIn 3 d) (e .fourth)) (at + placeIn 2 d) (e .third)) (at + 1) (e .second)) (at + 0) (e .first) (omega arith),
       take-set-le at (set (set l (at + placeIn 3 d) (e .fourth)) (at + placeIn 2 d) (e .third)) (at + 1) (e .second) (omega arith),
-      take-set-le at (set l (at + placeIn 3 d) (e .fourth)) (at + placeIn 2 d) (e .third) (omega arith), take-set-le at l (at + placeIn 3 d) (e .fourth) (omega arith)) refl
+      take-set-le at (set l (at + placeIn 3 d) (e .fourth)) (at + placeIn 2 d) (e .third) (omega arith),
+      take-set-le at l (at + placeIn 3 d) (e .fourth) (omega arith),
+    ) refl
 
     behind : drop at w ≡ take d (four e) ++ drop (at + d) l
     unfolding w
-    behind = rw (drop-set-add at (set (set (set l (at + placeIn 3 d) (e .fourth)) (at + placeIn 2 d) (e .third)) (at + 1) (e .second)) 0 (e .first),
+    behind = rw (
+      drop-set-add at (set (set (set l (at + placeIn 3 d) (e .fourth)) (at + placeIn 2 d) (e .third)) (at + 1) (e .second)) 0 (e .first),
       drop-set-add at (set (set l (at + placeIn 3 d) (e .fourth)) (at + placeIn 2 d) (e .third)) 1 (e .second),
-      drop-set-add at (set l (at + placeIn 3 d) (e .fourth)) (placeIn 2 d) (e .third), drop-set-add at l (placeIn 3 d) (e .fourth))
+      drop-set-add at (set l (at + placeIn 3 d) (e .fourth)) (placeIn 2 d) (e .third),
+      drop-set-add at l (placeIn 3 d) (e .fourth),
+    )
         (start-written (drop at l) d e two few enough ∙ ap (λ (m : List ℕ). take d (four e) ++ m) (drop-drop d at l))
 
     pub written-are : set (set (set (set l (at + placeIn 3 d) (e .fourth)) (at + placeIn 2 d) (e .third)) (at + 1) (e .second)) at (e .first) ≡ paste l at (four e) d

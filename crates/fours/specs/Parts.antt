@@ -1,5 +1,5 @@
 -- The orthant of entries, joined from the parts of each: where no axis is repeated, a bit is the sign of the one entry on its axis.
-use mathlib.Core.Path.{_≡_, refl, sym, ap, _∙_, subst}
+use mathlib.Core.Path.{_≡_, refl, sym, ap, _∙_}
 use mathlib.Core.Bool.{Bool, true, false, cond}
 use mathlib.Core.List.{List, [], _∷_, _++_}
 use mathlib.Core.Logic.{_≢_}
@@ -15,7 +15,7 @@ use Rattle.bisection.specs.Theorems.Entries.{Signed}
 use Rattle.bisection.specs.Theorems.Passing.{orthant-only}
 use Rattle.entries.specs.Masks.{markOf, mark-in, marked-high, high-none}
 use Rattle.fours.specs.declared.Four.{Four}
-use Rattle.fours.specs.Fours.{four, noEntries, Holds, partOf, OwnIs}
+use Rattle.fours.specs.Fours.{four, noEntries, partOf, OwnIs}
 use Rattle.fours.specs.Laws.{held-few}
 
 -- the parts of all entries, joined

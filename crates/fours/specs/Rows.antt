@@ -1,15 +1,13 @@
 -- What a crossing does to entries by value, and entries written to a code: one law for each function.
 use mathlib.Core.Path.{_≡_, refl}
 use mathlib.Core.Bool.{Bool, true, false, cond}
-use mathlib.Core.List.{List, [], _∷_}
-use Prim.Native.Nat.{ℕ, zero, suc, _+_, _-_, _≤_, _<_}
+use mathlib.Core.List.{List}
+use Prim.Native.Nat.{ℕ, zero, suc, _-_, _≤_, _<_}
 use native.Mathlib.Omega.{arith}
 use lib.Dec.{eqb}
-use lib.ListN.{length, getD, set}
-use lib.Seq.{paste}
+use lib.ListN.{getD}
 use Rattle.bisection.specs.Codes.{negated}
 use Rattle.bisection.specs.Theorems.Table.{exchanged, negatedAt}
-use Rattle.entries.specs.Walks.{placeIn}
 use Rattle.fours.specs.declared.Four.{Four}
 use Rattle.fours.specs.Fours.{four}
 use Rattle.fours.specs.Laws.{fourOf}
@@ -46,19 +44,3 @@ module _ {p q r s : ℕ} where
   traded-is e (suc (suc zero)) l m o x f g h k = rw (f, x, g, h, k, o) refl
   traded-is e (suc (suc (suc zero))) l m o x f g h k = rw (f, x, g, h, k, o) refl
   traded-is e (suc (suc (suc (suc n)))) l m o x f g h k = absurd (omega arith)
-
--- the entries stored from the last to the first
-pub put-is : (l : List ℕ) (e : Four) (d : ℕ) → 2 ≤ d → d ≤ 4 → 2 + d ≤ length l
-    → set (set (set (set l (2 + placeIn 3 d) (e .fourth)) (2 + placeIn 2 d) (e .third)) 3 (e .second)) 2 (e .first) ≡ paste l 2 (four e) d
-put-is (x ∷ y ∷ a ∷ b ∷ l) e (suc (suc zero)) h k r = refl
-put-is (x ∷ y ∷ a ∷ b ∷ c ∷ l) e (suc (suc (suc zero))) h k r = refl
-put-is (x ∷ y ∷ a ∷ b ∷ c ∷ f ∷ l) e (suc (suc (suc (suc zero)))) h k r = refl
-put-is [] e d h k r = absurd (omega arith)
-put-is (x ∷ []) e d h k r = absurd (omega arith)
-put-is (x ∷ (y ∷ [])) e d h k r = absurd (omega arith)
-put-is (x ∷ (y ∷ (a ∷ []))) e d h k r = absurd (omega arith)
-put-is (x ∷ (y ∷ (a ∷ (b ∷ _)))) e zero h k r = absurd (omega arith)
-put-is (x ∷ (y ∷ (a ∷ (b ∷ _)))) e (suc zero) h k r = absurd (omega arith)
-put-is (x ∷ (y ∷ (a ∷ (b ∷ [])))) e (suc (suc (suc d))) h k r = absurd (omega arith)
-put-is (x ∷ (y ∷ (a ∷ (b ∷ (c ∷ []))))) e (suc (suc (suc (suc d)))) h k r = absurd (omega arith)
-put-is (x ∷ (y ∷ (a ∷ (b ∷ (c ∷ (f ∷ l)))))) e (suc (suc (suc (suc (suc d))))) h k r = absurd (omega arith)

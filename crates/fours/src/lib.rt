@@ -1,6 +1,6 @@
 // Entries by value: four named entries. A dimension with fewer axes leaves the last ones 0. Nothing here branches on a place
 // or on an entry: which step comes is not foreseen, and a branch on it costs more than both sides.
-pub mod rows; // rows.rt: what a crossing does to entries, and entries written
+pub mod rows; // rows.rt: what a crossing does to entries
 
 ghost use mathlib.Core.Path.{_≡_};
 ghost use mathlib.Core.Bool.{cond};

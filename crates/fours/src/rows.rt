@@ -1,16 +1,14 @@
-// What a crossing does to entries by value, and entries written to a lent buffer.
+// What a crossing does to entries by value.
 ghost use mathlib.Core.Path.{_≡_};
 ghost use mathlib.Core.Bool.{cond};
-ghost use Prim.Native.Nat.{_+_, _-_, _≤_, _<_};
-ghost use lib.ListN.{length, getD};
-ghost use lib.Seq.{paste};
+ghost use Prim.Native.Nat.{_-_, _≤_, _<_};
+ghost use lib.ListN.{getD};
 ghost use Rattle.bisection.specs.Codes.{axis};
 ghost use Rattle.bisection.specs.Theorems.Table.{exchanged};
 ghost use Rattle.fours.specs.Fours.{four};
 ghost use Rattle.fours.specs.Rows.{traded};
 use crate::Four;
 use crate::pick;
-use entries::check;
 
 // One of two.
 pub fn chosen(b: bool, x: Four, y: Four) -> Four
@@ -61,17 +59,4 @@ pub fn traded_first(e: Four, n: usize) -> Four
         third,
         fourth,
     }
-}
-
-// Writes the first d entries to their places in a code. One that the dimension lacks goes to the first place, which is written last.
-pub fn put(e: Four, d: usize, code: &mut [u8])
-    requires { ⌜ (2 ≤ d) × (d ≤ 4) × (2 + d ≤ length (now code)) ⌝ }
-    ensures { λ r. ⌜ now (code .exit) ≡ paste (now (code .entry)) 2 (four e) d ⌝ }
-{
-    let third = 2 + check::place_in(2, d);
-    let fourth = 2 + check::place_in(3, d);
-    code[fourth] = e.fourth;
-    code[third] = e.third;
-    code[3] = e.second;
-    code[2] = e.first;
 }

@@ -14,7 +14,7 @@ add-entry c =
     let size = row .before .before .before .before in
     let known = size .before .before in
     let few = facing-few _ (known .before .before .code-check .ensures) (known .before .if1 .left) (known .dimension-of .ensures) (size .before .axes .ensures)
-        (size .size .ensures) (row .before .before .depth-of .ensures) (row .before .split-place .ensures) (row .either .ensures) (c .before .if3 .taken) (c .either2 .ensures) in
+    (size .size .ensures) (row .before .before .depth-of .ensures) (row .before .split-place .ensures) (row .either .ensures) (c .before .if3 .taken) (c .either2 .ensures) in
     omega (arith, few)
 
 shared-slice-read-entry : tie.Need-shared-slice-read-entry
