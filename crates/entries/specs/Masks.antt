@@ -13,9 +13,6 @@ use borrow.Author.Tests.{eq-eqb, ne-eqb, le-leb, lt-leb}
 use Rattle.bisection.specs.Codes.{high}
 use Rattle.bisection.specs.Theorems.Orthants.{low-bit}
 
-unfoldable pub raised : ℕ → ℕ → ℕ
-raised o a = bitOr o (2 ^ (a - 1))
-
 pub high-masked : (o a : ℕ) → eqb (bitAnd (o / 2 ^ (a - 1)) 1) 1 ≡ high o a
 unfolding high
 high-masked o a = ap (λ (u : ℕ). eqb u 1) (and-mask (o / 2 ^ (a - 1)) 1)
@@ -23,10 +20,6 @@ high-masked o a = ap (λ (u : ℕ). eqb u 1) (and-mask (o / 2 ^ (a - 1)) 1)
 -- the bit that a shift makes, as a byte holds it
 pub shifted-bit : (n : ℕ) → n < 8 → 1 * 2 ^ n % 2 ^ 8 ≡ 2 ^ n
 shifted-bit n h = let l : 2 ^ n < 2 ^ 8 = pow-lt {i = n} {j = 8} h in rw (one-mul (2 ^ n)) (mod-eq-of-lt l)
-
-pub raised-as : (o a : ℕ) → 1 ≤ a → a ≤ 8 → bitOr o (1 * 2 ^ (a - 1) % 2 ^ 8) ≡ raised o a
-unfolding raised
-raised-as o a h l = rw (shifted-bit (a - 1) (omega arith)) refl
 
 -- bits of a join
 bit-or : (a b j : ℕ) → bitOr a b / 2 ^ j % 2 ≡ max (a / 2 ^ j % 2) (b / 2 ^ j % 2)
@@ -54,8 +47,8 @@ unfolding high
 high-none a = rw (zero-div (2 ^ (a - 1))) refl
 
 -- a raised bit is high, and no other bit changes
-pub raised-high : (o b a : ℕ) → 1 ≤ b → 1 ≤ a → high (raised o b) a ≡ cond (eqb a b) true (high o a)
-unfolding high raised
+raised-high : (o b a : ℕ) → 1 ≤ b → 1 ≤ a → high (bitOr o (2 ^ (b - 1))) a ≡ cond (eqb a b) true (high o a)
+unfolding high
 raised-high o b a h l = rw (bit-or o (2 ^ (b - 1)) (a - 1)) (go (ℕ-discrete a b) (decLt a b))
   where
     x : ℕ
@@ -106,7 +99,7 @@ module _ (o a : ℕ) where
       go : Dec (a < 1) → Dec (8 < a) → high (bitOr o (markOf a)) b ≡ cond (eqb b a) true (high o b)
       go (yes p) q = still (omega arith) (mark-none a p)
       go (no p) (yes q) = still (omega arith) (mark-over a q)
-      go (no p) (no q) = rw (mark-in a (omega arith) (omega arith)) (unfold raised in raised-high o a b (omega arith) h)
+      go (no p) (no q) = rw (mark-in a (omega arith) (omega arith)) (raised-high o a b (omega arith) h)
 
   pub marked-byte : o < 2 ^ 8 → bitOr o (markOf a) < 2 ^ 8
   marked-byte h = or-lt 8 o (markOf a) h (go (decLt a 1) (decLt 8 a))

@@ -8,7 +8,7 @@ ghost use mir.Syntax.{w8};
 ghost use mir.Val.{SFits};
 ghost use Rattle.bisection.specs.Codes.{axis, minus, negated, high};
 ghost use Rattle.entries.specs.Signs.{signedOf, byteOf};
-ghost use Rattle.entries.specs.Masks.{raised, markOf};
+ghost use Rattle.entries.specs.Masks.{markOf};
 
 // The axis of an entry.
 pub fn axis_of(e: u8) -> u8
@@ -68,14 +68,6 @@ pub fn is_high(orthant: u8, axis: u8) -> bool
     ensures { λ r. ⌜ r ≡ high orthant axis ⌝ }
 {
     (orthant >> (axis - 1)) & 1 == 1
-}
-
-// The orthant byte made high on the axis.
-pub fn raise(orthant: u8, axis: u8) -> u8
-    requires { ⌜ (1 ≤ axis) × (axis ≤ 8) ⌝ }
-    ensures { λ r. ⌜ r ≡ raised orthant axis ⌝ }
-{
-    orthant | (1 << (axis - 1))
 }
 
 // The byte that is high on the entry's axis alone; 0 where a byte has no bit for it.

@@ -1,10 +1,10 @@
 -- The position of a code that passes: the walk up from it gives its root and where its path leads.
 use mathlib.Core.Path.{_≡_, refl, sym, ap, _∙_, subst}
-use mathlib.Core.List.{List, [], _∷_, _++_}
-use Prim.Native.Nat.{ℕ, zero, suc, _+_, _-_, _*_, _^_, _≤_, _<_}
+use mathlib.Core.List.{List, [], _++_}
+use Prim.Native.Nat.{ℕ, _+_, _-_, _^_, _≤_, _<_}
 use native.Mathlib.Omega.{arith}
 use lib.ListN.{length, getD, take, drop, replicate, length-replicate, take-append-drop}
-use lib.Seq.{paste, take-all, drop-at, take-at}
+use lib.Seq.{paste, take-at}
 use Rattle.dimension.specs.Sizes.{greatestDepth}
 use Rattle.dimension.specs.Laws.{depth-small}
 use Rattle.bisection.specs.Roots.{roots}
@@ -16,7 +16,6 @@ use Rattle.fours.specs.declared.Four.{Four}
 use Rattle.fours.specs.Fours.{four, noEntries}
 use Rattle.steps.specs.Relatives.{code-axes}
 use Rattle.steps.specs.Ascents.{up-ready, up-root, up-path}
-use Rattle.positions.specs.declared.Position.{Position}
 use Rattle.positions.specs.Positions.{startOf, sizeOf, PositionIs}
 use Rattle.positions.specs.RootNumbers.{numberIn, number-front, numbered}
 use Rattle.positions.specs.Walks.{WalkReady, Reached}

@@ -1,5 +1,5 @@
 -- The root and the path of a code that passes, as they are written: the way up from its entries.
-use mathlib.Core.Path.{_≡_, refl, sym, ap, _∙_, subst}
+use mathlib.Core.Path.{_≡_, refl, sym, ap, _∙_}
 use mathlib.Core.List.{List, _++_}
 use Prim.Native.Nat.{ℕ, _+_, _-_, _≤_}
 use native.Mathlib.Omega.{arith}
@@ -7,7 +7,7 @@ use native.Mathlib.Nat.{zero-add}
 use lib.ListN.{length, take, drop, length-drop, take-append-drop}
 use lib.Seq.{paste, take-all}
 use Rattle.dimension.specs.Sizes.{codeLength, splitPlace, boxDepth}
-use Rattle.bisection.specs.Codes.{dimensionOf, depthOf, entriesOf, orthantsOf, partsOf}
+use Rattle.bisection.specs.Codes.{dimensionOf, depthOf, orthantsOf, partsOf}
 use Rattle.bisection.specs.Refusals.{done, codeRefusal}
 use Rattle.bisection.specs.Theorems.Paths.{pathTo, rootTo}
 use Rattle.bisection.specs.Theorems.CodePaths.{rootOf, pathOf}

@@ -1,17 +1,17 @@
 -- The step that a name's entries tell, taken back by value; and the parent as the code writes it: the front of the code with the
 -- entries one step up.
 use mathlib.Core.Path.{_≡_, refl, sym, ap, _∙_}
-use mathlib.Core.List.{List, [], _∷_, _++_, append-assoc}
+use mathlib.Core.List.{List, _∷_, _++_, append-assoc}
 use Prim.Native.Nat.{ℕ, zero, suc, _+_, _-_, _*_, _≤_, _<_}
 use native.Mathlib.Omega.{arith}
-use lib.ListN.{length, getD, take, drop, set, length-append, length-take, length-drop, take-append-drop}
+use lib.ListN.{length, getD, take, drop, set, take-append-drop}
 use lib.Seq.{paste, take-at, getD-take, take-append-add}
 use Rattle.dimension.specs.Sizes.{codeLength, longestOfAll, splitPlace, boxDepth}
 use Rattle.dimension.specs.Laws.{split-range, split-is}
-use Rattle.bisection.specs.Codes.{axis, high, Name, bytes, dimensionOf, depthOf, orthantsOf, partsOf}
+use Rattle.bisection.specs.Codes.{axis, high, Name, bytes, depthOf, orthantsOf, partsOf}
 use Rattle.bisection.specs.Refusals.{ownMinus}
 use Rattle.bisection.specs.Theorems.Entries.{unturned-append, unturned-length}
-use Rattle.bisection.specs.Theorems.Passing.{Passes, fewer, lastStep, unstepped, parentName, parent-passes}
+use Rattle.bisection.specs.Theorems.Passing.{Passes, fewer, lastStep, unstepped, parentName}
 use Rattle.bisection.specs.Theorems.CodePaths.{parentCode}
 use Rattle.entries.specs.Walks.{ownByte}
 use Rattle.entries.specs.Passed.{code-few, checked}

@@ -1,12 +1,12 @@
 -- Child and parent as the code writes them: what they are written from, and the child.
 use mathlib.Core.Path.{_≡_, refl, sym, ap, _∙_, subst}
-use mathlib.Core.List.{List, [], _∷_, _++_, append-assoc}
+use mathlib.Core.List.{List, _∷_, _++_, append-assoc}
 use mathlib.Core.Logic.{⊎-elim}
 use Prim.Native.Nat.{ℕ, zero, suc, _+_, _-_, _≤_, _<_}
 use native.Mathlib.Omega.{arith}
 use native.Mathlib.Decide.{decLe}
-use lib.ListN.{length, getD, take, drop, set, length-append, length-take, length-drop, length-set}
-use lib.Seq.{paste, take-at, take-all, length-paste}
+use lib.ListN.{length, getD, take, drop, set}
+use lib.Seq.{paste, take-all}
 use Rattle.dimension.specs.Sizes.{codeLength, longestOfAll, splitPlace, boxDepth}
 use Rattle.dimension.specs.Laws.{depth-small, Within, Turned, deeper, split-range}
 use Rattle.bisection.specs.Codes.{axis, stepped, Name, step, bytes, dimensionOf, depthOf, entriesOf, partsOf}

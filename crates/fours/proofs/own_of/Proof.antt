@@ -5,18 +5,6 @@ use borrow.Author.Needs.{needs}
 use Rattle.fours.proofs.own_of.Statement.{statement}
 use Rattle.fours.proofs.own_of.Tie as tie
 
-part-of-requires : tie.Need-part-of-requires
-part-of-requires c κs = search needs
-
-part-of-requires-2 : tie.Need-part-of-requires-2
-part-of-requires-2 c κs = search needs
-
-part-of-requires-3 : tie.Need-part-of-requires-3
-part-of-requires-3 c κs = search needs
-
-part-of-requires-4 : tie.Need-part-of-requires-4
-part-of-requires-4 c κs = search needs
-
 returns : tie.Need-returns
 returns c =
     let args = c .before .before .before .before .args in
@@ -27,4 +15,9 @@ returns c =
 pub own-of-spec : {M : Type 1} → statement M
 own-of-spec =
     tie.close
-    (tie.spec part-of-requires part-of-requires-2 part-of-requires-3 part-of-requires-4 returns)
+    (tie.spec
+    (λ c κs. search needs)
+    (λ c κs. search needs)
+    (λ c κs. search needs)
+    (λ c κs. search needs)
+    returns)

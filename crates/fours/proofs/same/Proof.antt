@@ -3,15 +3,6 @@ use Rattle.fours.specs.Laws.{same-not, same-last}
 use Rattle.fours.proofs.same.Statement.{statement}
 use Rattle.fours.proofs.same.Tie as tie
 
-returns : tie.Need-returns
-returns c = same-not _ _ 0 (c .if1 .taken)
-
-returns-2 : tie.Need-returns-2
-returns-2 c = same-not _ _ 1 (c .if2 .taken)
-
-returns-3 : tie.Need-returns-3
-returns-3 c = same-not _ _ 2 (c .if3 .taken)
-
 returns-4 : tie.Need-returns-4
 returns-4 c =
     let args = c .before .before .before .before .before .before .before .before .before .before .before .args in
@@ -21,4 +12,9 @@ returns-4 c =
     same-last (args .a) (args .b) (if1 .left) (if2 .left) (if3 .left)
 
 pub same-spec : {M : Type 1} → statement M
-same-spec = tie.close (tie.spec returns returns-2 returns-3 returns-4)
+same-spec = tie.close
+    (tie.spec
+    (λ c. same-not _ _ 0 (c .if1 .taken))
+    (λ c. same-not _ _ 1 (c .if2 .taken))
+    (λ c. same-not _ _ 2 (c .if3 .taken))
+    returns-4)

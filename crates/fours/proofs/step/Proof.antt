@@ -4,21 +4,6 @@ use borrow.Author.Needs.{needs}
 use Rattle.fours.proofs.step.Statement.{statement}
 use Rattle.fours.proofs.step.Tie as tie
 
-turned-on-requires : tie.Need-turned-on-requires
-turned-on-requires c κs = search needs
-
-pick-requires : tie.Need-pick-requires
-pick-requires c κs = search needs
-
-pick-requires-2 : tie.Need-pick-requires-2
-pick-requires-2 c κs = search needs
-
-pick-requires-3 : tie.Need-pick-requires-3
-pick-requires-3 c κs = search needs
-
-pick-requires-4 : tie.Need-pick-requires-4
-pick-requires-4 c κs = search needs
-
 returns : tie.Need-returns
 returns c =
     let pick = c .before .before .before .pick in
@@ -31,9 +16,9 @@ pub step-spec : {M : Type 1} → statement M
 step-spec =
     tie.close
     (tie.spec
-    turned-on-requires
-    pick-requires
-    pick-requires-2
-    pick-requires-3
-    pick-requires-4
+    (λ c κs. search needs)
+    (λ c κs. search needs)
+    (λ c κs. search needs)
+    (λ c κs. search needs)
+    (λ c κs. search needs)
     returns)

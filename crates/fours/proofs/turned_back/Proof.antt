@@ -6,21 +6,6 @@ use borrow.Author.Needs.{needs}
 use Rattle.fours.proofs.turned_back.Statement.{statement}
 use Rattle.fours.proofs.turned_back.Tie as tie
 
-entry-requires : tie.Need-entry-requires
-entry-requires c κs = search needs
-
-negate-requires : tie.Need-negate-requires
-negate-requires c κs = rw (c .entry .ensures) (c .before .pre .1)
-
-pick-requires : tie.Need-pick-requires
-pick-requires c κs = search needs
-
-pick-requires-2 : tie.Need-pick-requires-2
-pick-requires-2 c κs = search needs
-
-pick-requires-3 : tie.Need-pick-requires-3
-pick-requires-3 c κs = search needs
-
 returns : tie.Need-returns
 returns c =
     let pick = c .before .before .pick in
@@ -33,4 +18,10 @@ returns c =
 pub turned-back-spec : {M : Type 1} → statement M
 turned-back-spec =
     tie.close
-    (tie.spec entry-requires negate-requires pick-requires pick-requires-2 pick-requires-3 returns)
+    (tie.spec
+    (λ c κs. search needs)
+    (λ c κs. rw (c .entry .ensures) (c .before .pre .1))
+    (λ c κs. search needs)
+    (λ c κs. search needs)
+    (λ c κs. search needs)
+    returns)

@@ -4,27 +4,6 @@ use borrow.Author.Needs.{needs}
 use Rattle.fours.proofs.turned_on.Statement.{statement}
 use Rattle.fours.proofs.turned_on.Tie as tie
 
-negate-requires : tie.Need-negate-requires
-negate-requires c κs = search needs
-
-pick-requires : tie.Need-pick-requires
-pick-requires c κs = search needs
-
-pick-requires-2 : tie.Need-pick-requires-2
-pick-requires-2 c κs = search needs
-
-pick-requires-3 : tie.Need-pick-requires-3
-pick-requires-3 c κs = search needs
-
-pick-requires-4 : tie.Need-pick-requires-4
-pick-requires-4 c κs = search needs
-
-pick-requires-5 : tie.Need-pick-requires-5
-pick-requires-5 c κs = search needs
-
-pick-requires-6 : tie.Need-pick-requires-6
-pick-requires-6 c κs = search needs
-
 returns : tie.Need-returns
 returns c =
     let pick = c .before .before .before .before .before .pick in
@@ -40,11 +19,11 @@ pub turned-on-spec : {M : Type 1} → statement M
 turned-on-spec =
     tie.close
     (tie.spec
-    negate-requires
-    pick-requires
-    pick-requires-2
-    pick-requires-3
-    pick-requires-4
-    pick-requires-5
-    pick-requires-6
+    (λ c κs. search needs)
+    (λ c κs. search needs)
+    (λ c κs. search needs)
+    (λ c κs. search needs)
+    (λ c κs. search needs)
+    (λ c κs. search needs)
+    (λ c κs. search needs)
     returns)

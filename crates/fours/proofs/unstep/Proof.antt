@@ -8,30 +8,6 @@ use borrow.Author.Needs.{needs}
 use Rattle.fours.proofs.unstep.Statement.{statement}
 use Rattle.fours.proofs.unstep.Tie as tie
 
-entry-requires : tie.Need-entry-requires
-entry-requires c κs = search needs
-
-same-sign-requires : tie.Need-same-sign-requires
-same-sign-requires c κs = rw (c .entry .ensures) (c .before .pre .1, c .before .pre .2)
-
-turned-back-requires : tie.Need-turned-back-requires
-turned-back-requires c κs = search needs
-
-pick-requires : tie.Need-pick-requires
-pick-requires c κs = search needs
-
-pick-requires-2 : tie.Need-pick-requires-2
-pick-requires-2 c κs = search needs
-
-pick-requires-3 : tie.Need-pick-requires-3
-pick-requires-3 c κs = search needs
-
-pick-requires-4 : tie.Need-pick-requires-4
-pick-requires-4 c κs = search needs
-
-pick-requires-5 : tie.Need-pick-requires-5
-pick-requires-5 c κs = search needs
-
 returns : tie.Need-returns
 returns c =
     let same-sign = c .before .before .before .before .before .before .same-sign in
@@ -48,12 +24,12 @@ pub unstep-spec : {M : Type 1} → statement M
 unstep-spec =
     tie.close
     (tie.spec
-    entry-requires
-    same-sign-requires
-    turned-back-requires
-    pick-requires
-    pick-requires-2
-    pick-requires-3
-    pick-requires-4
-    pick-requires-5
+    (λ c κs. search needs)
+    (λ c κs. rw (c .entry .ensures) (c .before .pre .1, c .before .pre .2))
+    (λ c κs. search needs)
+    (λ c κs. search needs)
+    (λ c κs. search needs)
+    (λ c κs. search needs)
+    (λ c κs. search needs)
+    (λ c κs. search needs)
     returns)

@@ -7,9 +7,6 @@ use borrow.Author.Needs.{needs}
 use Rattle.fours.proofs.write.Statement.{statement}
 use Rattle.fours.proofs.write.Tie as tie
 
-place-in-requires : tie.Need-place-in-requires
-place-in-requires c κs = search needs
-
 add-out : tie.Need-add-out
 add-out c =
     let args = c .before .before .args in
@@ -21,9 +18,6 @@ slice-write-out c =
     let args = c .before .before .args in
     let pre = c .before .before .pre in
     omega (arith, c .place-in .ensures, place-within 3 (args .d) (omega arith), pre .2)
-
-place-in-requires-2 : tie.Need-place-in-requires-2
-place-in-requires-2 c κs = search needs
 
 add-out-2 : tie.Need-add-out-2
 add-out-2 c =
@@ -37,9 +31,6 @@ slice-write-out-2 c =
     let pre = c .before .before .before .pre in
     simp length-set (omega (arith, c .place-in2 .ensures, place-within 2 (args .d) (omega arith), pre .2))
 
-add-out-3 : tie.Need-add-out-3
-add-out-3 c = search needs
-
 slice-write-out-3 : tie.Need-slice-write-out-3
 slice-write-out-3 c =
     let pre = c .before .before .before .pre in
@@ -49,9 +40,6 @@ slice-write-out-4 : tie.Need-slice-write-out-4
 slice-write-out-4 c =
     let pre = c .before .before .before .pre in
     simp length-set (omega (arith, pre .2))
-
-same-length : tie.Need-same-length
-same-length c = search needs
 
 returns : tie.Need-returns
 returns c =
@@ -63,14 +51,14 @@ pub write-spec : {M : Type 1} → statement M
 write-spec =
     tie.close
     (tie.spec
-    place-in-requires
+    (λ c κs. search needs)
     add-out
     slice-write-out
-    place-in-requires-2
+    (λ c κs. search needs)
     add-out-2
     slice-write-out-2
-    add-out-3
+    (λ c. search needs)
     slice-write-out-3
     slice-write-out-4
-    same-length
+    (λ c. search needs)
     returns)

@@ -1,9 +1,8 @@
 -- `number` meets its contract. The loop keeps: n is the number that the entries before place i give.
-use mathlib.Core.Path.{_≡_, refl, sym, ap, _∙_, subst}
-use Prim.Native.Nat.{ℕ, suc, _+_, _-_, _*_, _^_, _≤_, _<_}
+use mathlib.Core.Path.{_≡_, refl, ap, _∙_}
+use Prim.Native.Nat.{_-_, _≤_}
 use native.Mathlib.Omega.{arith}
 use native.Mathlib.Numerals.{add-one}
-use lib.ListN.{length, getD}
 use Rattle.positions.specs.RootNumbers.{numberIn, smaller-few, number-few, number-times, number-more}
 use borrow.Author.Needs.{needs}
 use Rattle.positions.proofs.number.Statement.{statement}

@@ -1,5 +1,5 @@
 -- `position_of` meets its contract: the steps of the entries are taken back, and the root numbered.
-use mathlib.Core.Path.{_≡_, sym, ap, _∙_}
+use mathlib.Core.Path.{sym, ap, _∙_}
 use Prim.Native.Nat.{ℕ, _-_, _^_}
 use native.Mathlib.Omega.{arith}
 use Rattle.dimension.specs.Sizes.{greatestDepth}
@@ -23,20 +23,11 @@ checked-requires c κs =
     let pre = c .before .before .pre in
     checked (args .code .now) pre .good .dimension
 
-axes-requires : tie.Need-axes-requires
-axes-requires c κs = search needs
-
 shared-slice-read-size : tie.Need-shared-slice-read-size
 shared-slice-read-size c =
     let args = c .before .before .before .before .before .args in
     let pre = c .before .before .before .before .before .pre in
     omega (arith, checked-two (args .code .now) pre)
-
-size-requires : tie.Need-size-requires
-size-requires c κs = search needs
-
-greatest-depth-requires : tie.Need-greatest-depth-requires
-greatest-depth-requires c κs = search needs
 
 sub-power : tie.Need-sub-power
 unfolding dimensionOf depthOf
@@ -77,9 +68,6 @@ walk-requires c κs =
     let greatest-depth = c .before .before .greatest-depth in
     rw (← axes .ensures) (place-ready (args .code .now) pre _ _ (axes .ensures ∙ checked .ensures) (size .ensures) (c .entries-of .ensures) _ (c .before .power .ensures ∙ ap (λ (n : ℕ). 2 ^ (n - size .result)) (greatest-depth .ensures ∙ ap greatestDepth (sym (axes .ensures)))))
 
-slice-aggregate-number : tie.Need-slice-aggregate-number
-slice-aggregate-number c = search needs
-
 number-requires : tie.Need-number-requires
 unfolding dimensionOf depthOf
 number-requires c κs =
@@ -111,14 +99,14 @@ position-of-spec =
     (tie.spec
     shared-slice-read-checked
     checked-requires
-    axes-requires
+    (λ c κs. search needs)
     shared-slice-read-size
-    size-requires
-    greatest-depth-requires
+    (λ c κs. search needs)
+    (λ c κs. search needs)
     sub-power
     power-requires
     entries-of-requires
     walk-requires
-    slice-aggregate-number
+    (λ c. search needs)
     number-requires
     returns)

@@ -1,5 +1,5 @@
 -- `power` meets its contract: the shifted bit fits a word.
-use mathlib.Core.Path.{_≡_, _∙_}
+use mathlib.Core.Path.{_∙_}
 use native.Mathlib.Omega.{arith}
 use native.Mathlib.Nat.{one-mul}
 use lib.Pow.{shl-exact}

@@ -1,10 +1,9 @@
 -- `smaller` meets its contract. The loop keeps: n counts the smaller entries before place j.
-use mathlib.Core.Path.{_≡_, refl, sym, ap, _∙_, subst}
-use Prim.Native.Nat.{ℕ, suc, _+_, _-_, _*_, _^_, _≤_, _<_}
+use mathlib.Core.Path.{_≡_, sym, ap, _∙_}
+use Prim.Native.Nat.{ℕ, _+_, _-_, _≤_, _<_}
 use mathlib.Core.Logic.{⊎-elim}
 use native.Mathlib.Omega.{arith}
 use native.Mathlib.Numerals.{add-one}
-use lib.ListN.{length, getD}
 use Rattle.positions.specs.RootNumbers.{smallerIn, smaller-none, smaller-more, smaller-same, smaller-few}
 use borrow.Author.Needs.{needs}
 use Rattle.positions.proofs.smaller.Statement.{statement}

@@ -1,9 +1,7 @@
 -- `stretch` meets its contract: the greatest depth is small enough for a word.
-use mathlib.Core.Path.{_≡_, refl, sym, ap, _∙_, subst}
-use Prim.Native.Nat.{ℕ, suc, _+_, _-_, _*_, _^_, _≤_, _<_}
+use mathlib.Core.Path.{ap, _∙_}
+use Prim.Native.Nat.{ℕ, _-_, _^_}
 use native.Mathlib.Omega.{arith}
-use native.Mathlib.Numerals.{add-one}
-use lib.ListN.{length, getD}
 use Rattle.dimension.specs.Sizes.{axesOf}
 use Rattle.dimension.specs.Laws.{axes-range, depth-small}
 use borrow.Author.Needs.{needs}

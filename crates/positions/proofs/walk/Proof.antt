@@ -14,26 +14,11 @@ Inv-loop code depth size axes first₀ second₀ third₀ fourth₀ k₀ boxes�
 abbrev μ-loop : tie.MeasureT-loop
 μ-loop code depth size axes first₀ second₀ third₀ fourth₀ k₀ boxes₀ start₀ half₀ t₀ first second third fourth k boxes start half t = t
 
-axes-requires : tie.Need-axes-requires Inv-loop μ-loop
-axes-requires c κs = search needs
-
-split-place-requires : tie.Need-split-place-requires Inv-loop μ-loop
-split-place-requires c κs = search needs
-
-box-depth-requires : tie.Need-box-depth-requires Inv-loop μ-loop
-box-depth-requires c κs = search needs
-
 loop-holds : tie.Need-loop-holds Inv-loop μ-loop
 loop-holds c =
     let pre = c .before .before .before .before .pre in
     let axes = c .before .before .axes in
     walk-none pre (axes .ensures) (c .before .split-place .ensures) (c .box-depth .ensures)
-
-sub-t : tie.Need-sub-t Inv-loop μ-loop
-sub-t c = search needs
-
-boxes-above-requires : tie.Need-boxes-above-requires Inv-loop μ-loop
-boxes-above-requires c κs = rise-boxes (c .before .loop .inv .rising) (c .loop-test .taken)
 
 place-above-requires : tie.Need-place-above-requires Inv-loop μ-loop
 place-above-requires c κs =
@@ -58,9 +43,6 @@ unstep-requires c κs =
     let loop-test = c .before .before .before .loop-test in
     rise-ready (loop .inv .rising) (loop-test .taken) (c .before .place-above .ensures)
 
-wide-requires : tie.Need-wide-requires Inv-loop μ-loop
-wide-requires c κs = search needs
-
 mul-start : tie.Need-mul-start Inv-loop μ-loop
 mul-start c =
     let loop = c .before .before .before .before .before .before .loop in
@@ -78,9 +60,6 @@ mul-half c =
     let loop = c .before .before .before .before .before .before .loop in
     let loop-test = c .before .before .before .before .before .loop-test in
     let h = half-small (loop .inv) (loop-test .taken) in omega (arith, h)
-
-loop-less : tie.Need-loop-less Inv-loop μ-loop
-loop-less c = search needs
 
 loop-again : tie.Need-loop-again Inv-loop μ-loop
 loop-again c =
@@ -102,20 +81,20 @@ walk-spec =
     (tie.spec
     Inv-loop
     μ-loop
-    axes-requires
-    split-place-requires
-    box-depth-requires
+    (λ c κs. search needs)
+    (λ c κs. search needs)
+    (λ c κs. search needs)
     loop-holds
-    sub-t
-    boxes-above-requires
+    (λ c. search needs)
+    (λ c κs. rise-boxes (c .before .loop .inv .rising) (c .loop-test .taken))
     place-above-requires
     own-of-requires
     sub-unstep
     unstep-requires
-    wide-requires
+    (λ c κs. search needs)
     mul-start
     add-start
     mul-half
-    loop-less
+    (λ c. search needs)
     loop-again
     returns)

@@ -5,12 +5,6 @@ use borrow.Author.Needs.{needs}
 use Rattle.steps.proofs.put_box.Statement.{statement}
 use Rattle.steps.proofs.put_box.Tie as tie
 
-returns : tie.Need-returns
-returns c = box-kept (c .if1 .taken)
-
-own-of-requires : tie.Need-own-of-requires
-own-of-requires c κs = search needs
-
 slice-write-code : tie.Need-slice-write-code
 slice-write-code c =
     let pre = c .before .before .before .pre in
@@ -21,12 +15,13 @@ add-result c =
     let pre = c .before .before .before .pre in
     let h = pre .room (c .before .if1 .left) in omega (arith, h)
 
-same-length : tie.Need-same-length
-same-length c = search needs
-
-returns-2 : tie.Need-returns-2
-returns-2 c = box-put (c .before .if1 .left) (c .own-of .ensures)
-
 pub put-box-spec : {M : Type 1} → statement M
 put-box-spec =
-    tie.close (tie.spec returns own-of-requires slice-write-code add-result same-length returns-2)
+    tie.close
+    (tie.spec
+    (λ c. box-kept (c .if1 .taken))
+    (λ c κs. search needs)
+    slice-write-code
+    add-result
+    (λ c. search needs)
+    (λ c. box-put (c .before .if1 .left) (c .own-of .ensures)))

@@ -1,5 +1,5 @@
 -- `write_child` meets its contract: the copy with one more depth, the entries stepped, and the orthant that they give.
-use mathlib.Core.Path.{_≡_, refl, _∙_}
+use mathlib.Core.Path.{refl, _∙_}
 use native.Mathlib.Omega.{arith}
 use lib.ListN.{length-set}
 use Rattle.steps.specs.Relatives.{child-front, child-byte, child-entries, child-over, child-some, child-first, child-box, child-written}
@@ -7,19 +7,10 @@ use borrow.Author.Needs.{needs}
 use Rattle.steps.proofs.write_child.Statement.{statement}
 use Rattle.steps.proofs.write_child.Tie as tie
 
-axes-requires : tie.Need-axes-requires
-axes-requires c κs = search needs
-
-split-place-requires : tie.Need-split-place-requires
-split-place-requires c κs = search needs
-
 entries-of-requires : tie.Need-entries-of-requires
 entries-of-requires c κs =
     let pre = c .before .before .before .before .pre in
     child-entries pre (c .before .axes .ensures)
-
-sub-step : tie.Need-sub-step
-sub-step c = search (needs, child-some)
 
 step-requires : tie.Need-step-requires
 step-requires c κs =
@@ -27,16 +18,10 @@ step-requires c κs =
     let axes = c .before .before .axes in
     child-first pre (axes .ensures) (c .before .split-place .ensures) (c .entries-of .ensures)
 
-copy-front-requires : tie.Need-copy-front-requires
-copy-front-requires c κs = search (needs, child-front)
-
 shared-slice-read-out : tie.Need-shared-slice-read-out
 shared-slice-read-out c =
     let pre = c .before .before .before .before .before .before .before .before .before .before .before .pre in
     omega (arith, child-front pre)
-
-add-out : tie.Need-add-out
-add-out c = search (needs, child-byte)
 
 slice-write-out : tie.Need-slice-write-out
 slice-write-out c =
@@ -83,14 +68,14 @@ pub write-child-spec : {M : Type 1} → statement M
 write-child-spec =
     tie.close
     (tie.spec
-    axes-requires
-    split-place-requires
+    (λ c κs. search needs)
+    (λ c κs. search needs)
     entries-of-requires
-    sub-step
+    (λ c. search (needs, child-some))
     step-requires
-    copy-front-requires
+    (λ c κs. search (needs, child-front))
     shared-slice-read-out
-    add-out
+    (λ c. search (needs, child-byte))
     slice-write-out
     write-requires
     put-box-requires

@@ -1,5 +1,5 @@
 -- `write_parent` meets its contract: the front of the code, and the entries one step up.
-use mathlib.Core.Path.{_≡_, refl, _∙_}
+use mathlib.Core.Path.{refl, _∙_}
 use native.Mathlib.Omega.{arith}
 use lib.ListN.{length-set}
 use Rattle.dimension.specs.Laws.{axes-range, split-fits, split-sub, split-rest}
@@ -7,15 +7,6 @@ use Rattle.steps.specs.Parents.{parent-byte, parent-own, parent-front, p
 use borrow.Author.Needs.{needs}
 use Rattle.steps.proofs.write_parent.Statement.{statement}
 use Rattle.steps.proofs.write_parent.Tie as tie
-
-axes-requires : tie.Need-axes-requires
-axes-requires c κs = search needs
-
-box-depth-requires : tie.Need-box-depth-requires
-box-depth-requires c κs = search needs
-
-own-of-requires : tie.Need-own-of-requires
-own-of-requires c κs = search (needs, parent-own)
 
 mul-k : tie.Need-mul-k
 mul-k c =
@@ -123,9 +114,9 @@ pub write-parent-spec : {M : Type 1} → statement M
 write-parent-spec =
     tie.close
     (tie.spec
-    axes-requires
-    box-depth-requires
-    own-of-requires
+    (λ c κs. search needs)
+    (λ c κs. search needs)
+    (λ c κs. search (needs, parent-own))
     mul-k
     sub-k
     sub-k-2

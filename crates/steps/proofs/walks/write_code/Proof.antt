@@ -16,19 +16,10 @@ Inv-loop root path code₀ axes first₀ second₀ third₀ fourth₀ k₀ at₀
 abbrev μ-loop : tie.MeasureT-loop
 μ-loop root path code₀ axes first₀ second₀ third₀ fourth₀ k₀ at₀ t₀ code first second third fourth k at t = length path - t
 
-axes-requires : tie.Need-axes-requires Inv-loop μ-loop
-axes-requires c κs = search needs
-
-cast-code : tie.Need-cast-code Inv-loop μ-loop
-cast-code c = search needs
-
 slice-write-code : tie.Need-slice-write-code Inv-loop μ-loop
 slice-write-code c =
     let pre = c .before .before .before .before .pre in
     omega (arith, code-two pre)
-
-cast-code-2 : tie.Need-cast-code-2 Inv-loop μ-loop
-cast-code-2 c = search needs
 
 slice-write-code-2 : tie.Need-slice-write-code-2 Inv-loop μ-loop
 slice-write-code-2 c =
@@ -50,12 +41,6 @@ loop-holds c =
     let pre = c .before .before .before .before .before .pre in
     fall-none (code-headed pre (c .before .axes .ensures)) (c .entries-of .ensures)
 
-sub-step : tie.Need-sub-step Inv-loop μ-loop
-sub-step c = fall-some (c .before .loop .inv) (c .loop-test .taken)
-
-shared-slice-read-step : tie.Need-shared-slice-read-step Inv-loop μ-loop
-shared-slice-read-step c = search needs
-
 step-requires : tie.Need-step-requires Inv-loop μ-loop
 step-requires c κs =
     let loop = c .before .before .loop in
@@ -72,12 +57,6 @@ place-after-requires c κs =
     let loop = c .before .before .before .before .before .before .before .loop in
     let loop-test = c .before .before .before .before .before .before .loop-test in
     fall-some (loop .inv) (loop-test .taken)
-
-add-t : tie.Need-add-t Inv-loop μ-loop
-add-t c = search needs
-
-loop-less : tie.Need-loop-less Inv-loop μ-loop
-loop-less c = search needs
 
 loop-again : tie.Need-loop-again Inv-loop μ-loop
 loop-again c =
@@ -114,21 +93,21 @@ write-code-spec =
     (tie.spec
     Inv-loop
     μ-loop
-    axes-requires
-    cast-code
+    (λ c κs. search needs)
+    (λ c. search needs)
     slice-write-code
-    cast-code-2
+    (λ c. search needs)
     slice-write-code-2
     entries-of-requires
     add-at
     loop-holds
-    sub-step
-    shared-slice-read-step
+    (λ c. fall-some (c .before .loop .inv) (c .loop-test .taken))
+    (λ c. search needs)
     step-requires
     put-box-requires
     place-after-requires
-    add-t
-    loop-less
+    (λ c. search needs)
+    (λ c. search needs)
     loop-again
     write-requires
     same-length

@@ -13,19 +13,10 @@ Inv-loop code depth root path₀ axes first₀ second₀ third₀ fourth₀ k₀
 abbrev μ-loop : tie.MeasureT-loop
 μ-loop code depth root path₀ axes first₀ second₀ third₀ fourth₀ k₀ boxes₀ t₀ path first second third fourth k boxes t = t
 
-axes-requires : tie.Need-axes-requires Inv-loop μ-loop
-axes-requires c κs = search needs
-
 entries-of-requires : tie.Need-entries-of-requires Inv-loop μ-loop
 entries-of-requires c κs =
     let pre = c .before .before .before .before .pre in
     path-entries pre (c .axes .ensures)
-
-split-place-requires : tie.Need-split-place-requires Inv-loop μ-loop
-split-place-requires c κs = search needs
-
-box-depth-requires : tie.Need-box-depth-requires Inv-loop μ-loop
-box-depth-requires c κs = search needs
 
 loop-holds : tie.Need-loop-holds Inv-loop μ-loop
 loop-holds c =
@@ -33,12 +24,6 @@ loop-holds c =
     let axes = c .before .before .before .axes in
     let entries-of = c .before .before .entries-of in
     path-rises pre (axes .ensures) (entries-of .ensures) (c .before .split-place .ensures) (c .box-depth .ensures)
-
-sub-t : tie.Need-sub-t Inv-loop μ-loop
-sub-t c = search needs
-
-boxes-above-requires : tie.Need-boxes-above-requires Inv-loop μ-loop
-boxes-above-requires c κs = rise-boxes (c .before .loop .inv) (c .loop-test .taken)
 
 place-above-requires : tie.Need-place-above-requires Inv-loop μ-loop
 place-above-requires c κs =
@@ -69,9 +54,6 @@ slice-write-path c =
     let loop-test = c .before .before .before .before .loop-test in
     rise-write (loop .inv) (loop-test .taken)
 
-loop-less : tie.Need-loop-less Inv-loop μ-loop
-loop-less c = search needs
-
 loop-again : tie.Need-loop-again Inv-loop μ-loop
 loop-again c =
     let loop = c .before .before .before .before .before .loop in
@@ -85,9 +67,6 @@ write-requires c κs =
     let pre = c .before .before .before .before .before .before .before .before .before .before .pre in
     let axes = c .before .before .before .before .before .before .axes in
     path-room pre (axes .ensures)
-
-same-length : tie.Need-same-length Inv-loop μ-loop
-same-length c = c .before .root .given
 
 same-length-2 : tie.Need-same-length-2 Inv-loop μ-loop
 same-length-2 c =
@@ -110,21 +89,21 @@ write-path-spec =
     (tie.spec
     Inv-loop
     μ-loop
-    axes-requires
+    (λ c κs. search needs)
     entries-of-requires
-    split-place-requires
-    box-depth-requires
+    (λ c κs. search needs)
+    (λ c κs. search needs)
     loop-holds
-    sub-t
-    boxes-above-requires
+    (λ c. search needs)
+    (λ c κs. rise-boxes (c .before .loop .inv) (c .loop-test .taken))
     place-above-requires
     own-of-requires
     sub-unstep
     unstep-requires
     slice-write-path
-    loop-less
+    (λ c. search needs)
     loop-again
     write-requires
-    same-length
+    (λ c. c .before .root .given)
     same-length-2
     returns)
