@@ -35,7 +35,8 @@ part-is e h l = ap (λ (m : ℕ). cond (minus e) m 0) (half (axis e) h l)
 
     half : (a : ℕ) → 1 ≤ a → a ≤ 7 → 2 ^ (a % 8) / 2 ≡ markOf a
     half zero h l = absurd (omega arith)
-    half (suc n) h l = ap (λ (m : ℕ). 2 ^ m / 2) (mod-eq-of-lt {n = suc n} {m = 8} (omega arith)) ∙ ap (λ (m : ℕ). m / 2) (twice n) ∙ mul-div-right (2 ^ n) {m = 2} (omega arith) ∙ ap (λ (m : ℕ). 2 ^ m) (less n) ∙ sym (mark-in (suc n) h (omega arith))
+    half (suc n) h l = ap (λ (m : ℕ). 2 ^ m / 2) (mod-eq-of-lt {n = suc n} {m = 8} (omega arith)) ∙ ap (λ (m : ℕ). m / 2) (twice n) ∙ mul-div-right (2 ^ n) {m = 2} (omega arith)
+        ∙ ap (λ (m : ℕ). 2 ^ m) (less n) ∙ sym (mark-in (suc n) h (omega arith))
 
 -- a part makes its own axis high where the entry has a minus, and changes no other
 module _ (o e b : ℕ) (l : 1 ≤ b) (u : b ≤ 8) (low : 1 ≤ axis e) (few : axis e ≤ 7) where
@@ -73,7 +74,8 @@ module _ (d : ℕ) (few : d ≤ 7) where
   parts-fit (e ∷ es) k = or-lt d (partsOf es) (partOf e) (parts-fit es (rest e es k)) (rw (part-is e (k .low 0 (omega arith)) (omega (arith, k .high 0 (omega arith)))) (go (minus e)))
     where
       go : (t : Bool) → cond t (markOf (axis e)) 0 < 2 ^ d
-      go true = rw (mark-in (axis e) (k .low 0 (omega arith)) (omega (arith, k .high 0 (omega arith)))) (pow-lt {i = axis e - 1} {j = d} (omega (arith, k .low 0 (omega arith), k .high 0 (omega arith))))
+      go true = rw (mark-in (axis e) (k .low 0 (omega arith)) (omega (arith, k .high 0 (omega arith))))
+          (pow-lt {i = axis e - 1} {j = d} (omega (arith, k .low 0 (omega arith), k .high 0 (omega arith))))
       go false = pow-pos d
 
   parts-free : (es : List ℕ) → Axes es → (a : ℕ) → 1 ≤ a → a ≤ d → ((i : ℕ) → i < length es → axis (getD es i 0) ≢ a) → high (partsOf es) a ≡ false
@@ -90,7 +92,8 @@ module _ (d : ℕ) (few : d ≤ 7) where
       part-own (partsOf es) e (axis e) (k .low 0 h) (omega (arith, k .high 0 h)) (k .low 0 h) (omega (arith, k .high 0 h)) refl
       (parts-free es (rest e es k) (axis e) (k .low 0 h) (k .high 0 h) (λ i l q. omega (arith, k .apart (suc i) 0 (omega arith) h q)))
   parts-high (e ∷ es) k (suc i) h =
-      part-other (partsOf es) e (axis (getD es i 0)) (k .low (suc i) h) (omega (arith, k .high (suc i) h)) (k .low 0 (omega arith)) (omega (arith, k .high 0 (omega arith))) (λ q. omega (arith, k .apart (suc i) 0 h (omega arith) q))
+      part-other (partsOf es) e (axis (getD es i 0)) (k .low (suc i) h) (omega (arith, k .high (suc i) h)) (k .low 0 (omega arith)) (omega (arith, k .high 0 (omega arith)))
+      (λ q. omega (arith, k .apart (suc i) 0 h (omega arith) q))
       ∙ parts-high es (rest e es k) i (omega arith)
 
   pub parts-orthant : (es : List ℕ) → Signed d es → partsOf es ≡ orthant es

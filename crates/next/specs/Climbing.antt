@@ -1,8 +1,8 @@
 -- The way up: the 1s at a path's end are dropped, one by one, and the entries turned back.
 use mathlib.Core.Path.{_≡_, refl, sym, ap, _∙_, subst}
-use mathlib.Core.Bool.{Bool, true, false}
-use mathlib.Core.List.{List, [], _∷_}
-use Prim.Native.Nat.{ℕ, zero, suc, _+_, _-_, _*_, _/_, _%_, _≤_, _<_}
+use mathlib.Core.Bool.{Bool}
+use mathlib.Core.List.{List}
+use Prim.Native.Nat.{ℕ, suc, _-_, _*_, _/_, _%_, _≤_, _<_}
 use native.Mathlib.Omega.{arith}
 use lib.ListN.{length, getD}
 use Rattle.dimension.specs.Sizes.{splitPlace, boxDepth}
@@ -13,7 +13,7 @@ use Rattle.steps.specs.Above.{placeAbove, boxesAbove, BoxesReady, above-ready, 
 use Rattle.fours.specs.declared.Four.{Four}
 use Rattle.fours.specs.Fours.{four, Holds}
 use Rattle.fours.specs.Laws.{held-axis, held-few, held-unturned}
-use Rattle.next.specs.Paths.{stripped, number, One, one-last, none-last}
+use Rattle.next.specs.Paths.{stripped, One, one-last, none-last}
 use Rattle.next.specs.Names.{nameAt, rooted-some, name-passes-at}
 use Rattle.next.specs.Nexts.{Cell, ClimbReady, UpIs}
 
@@ -50,7 +50,8 @@ module _ {d : ℕ} {e : Four} {n t : ℕ} {root : List ℕ} {p : List Bool} (c :
     pub up-cell : (r : Four) → four r ≡ unturned (j - 1) (four e) → Cell d r (n / 2) (t - 1) root rest
     up-cell r q = record {
       rooted = c .rooted;
-      held = subst (Holds d r) (ap (unturned (j - 1)) was ∙ unturned-turned (name-passes-at (c .rooted) rest .signed) (j - 1) (omega (arith, range)) (omega (arith, held-few (c .held)))) (held-unturned (c .held) r (j - 1) (omega (arith, range)) q);
+      held = subst (Holds d r) (ap (unturned (j - 1)) was ∙ unturned-turned (name-passes-at (c .rooted) rest .signed) (j - 1) (omega (arith, range)) (omega (arith, held-few (c .held))))
+          (held-unturned (c .held) r (j - 1) (omega (arith, range)) q);
       path-is = ap (λ (m : ℕ). m / 2) (c .path-is) ∙ one .half;
       depth-is = below;
     }
@@ -79,7 +80,12 @@ loop-start {d} {t = t} boxes r h = record { place = split-is d t d boxes refl h;
 
 module _ {d : ℕ} {e₀ : Four} {n₀ t₀ : ℕ} {e : Four} {n t k boxes : ℕ} (l : Loop d e₀ n₀ t₀ e n t k boxes) where
   pub loop-end : (n % 2 ≡ 1 → ⊥) → UpIs d e₀ n₀ t₀ (record { entries = e; path = n; depth = t; place = k; boxes = boxes })
-  loop-end even = record { place-is = l .place; boxes-are = l .count; up = λ root p c. let w = l .way root p c in subst (Cell d e n t root) (sym (w .same ∙ none-last (w .at) (λ h. even (ap (λ (m : ℕ). m % 2) (w .cell .path-is) ∙ h)))) (w .cell) }
+  loop-end even = record {
+    place-is = l .place;
+    boxes-are = l .count;
+    up = λ root p c. let w = l .way root p c in subst (Cell d e n t root)
+        (sym (w .same ∙ none-last (w .at) (λ h. even (ap (λ (m : ℕ). m % 2) (w .cell .path-is) ∙ h)))) (w .cell);
+  }
 
   pub loop-small : k ≤ 8
   loop-small = omega (arith, l .place, split-range d t (rooted-some (l .here .cell .rooted)), held-few (l .here .cell .held))

@@ -2,10 +2,10 @@
 use mathlib.Core.Path.{_≡_, refl, sym, ap, _∙_, subst}
 use mathlib.Core.Bool.{Bool, true, false}
 use mathlib.Core.List.{List, [], _∷_, _++_}
-use Prim.Native.Nat.{ℕ, zero, suc, _+_, _-_, _*_, _^_, _≤_, _<_}
+use Prim.Native.Nat.{ℕ, suc, _+_, _-_, _*_, _^_, _≤_, _<_}
 use native.Mathlib.Omega.{arith}
 use native.Mathlib.Nat.{pow-le-pow-right}
-use lib.ListN.{length, getD, take, replicate}
+use lib.ListN.{length, take, replicate}
 use Rattle.dimension.specs.Sizes.{splitPlace, boxDepth, greatestDepth, halvings}
 use Rattle.dimension.specs.Laws.{split-range, box-under, depth-small}
 use Rattle.bisection.specs.Codes.{axis, turned, step, stepped, orthant}
@@ -17,7 +17,7 @@ use Rattle.fours.specs.Laws.{held-axis, held-few, held-turned}
 use Rattle.next.specs.declared.Next.{Next}
 use Rattle.next.specs.declared.Up.{Up}
 use Rattle.next.specs.Paths.{zeros, zeros-length, stripped, stripped-short, Zero, zero-last, number, number-under, number-zeros}
-use Rattle.next.specs.Names.{nameAt, allBoxes, rooted-range, rooted-some, name-passes-at, boxes-step, zeros-entries, zeros-front, stripped-front}
+use Rattle.next.specs.Names.{nameAt, allBoxes, rooted-range, rooted-some, boxes-step, zeros-entries, zeros-front, stripped-front}
 use Rattle.next.specs.Digits.{digits}
 use Rattle.next.specs.Nexts.{entriesOf, nextOf, Cell, Stands, ClimbReady, UpIs, AfterReady, Gone, on, over, AfterIs}
 

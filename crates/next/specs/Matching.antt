@@ -1,26 +1,25 @@
 -- The laws of `matches`. A code of the cell or of a first one inside it fixes the bytes: the dimension, a depth, the cell's
 -- entries, and the front of its orthants. So each test is passed by such bytes, and bytes that pass them all are such a code.
 use mathlib.Core.Path.{_≡_, refl, sym, ap, _∙_, subst}
-use mathlib.Core.Bool.{Bool, true, false}
+use mathlib.Core.Bool.{Bool}
 use mathlib.Core.List.{List, [], _∷_, _++_, append-assoc}
-use mathlib.Core.Logic.{_≢_}
-use Prim.Native.Nat.{ℕ, zero, suc, _+_, _-_, _/_, _≤_, _<_}
+use Prim.Native.Nat.{ℕ, zero, suc, _+_, _-_, _/_, _≤_}
 use native.Mathlib.Omega.{arith}
 use lib.ListN.{length, getD, take, drop, length-take, length-drop, length-append}
 use lib.Seq.{paste, take-add, take-at, drop-at, drop-drop}
 use Rattle.dimension.specs.Sizes.{codeLength, greatestDepth, halvings, boxDepth}
 use Rattle.dimension.specs.Laws.{box-in}
-use Rattle.bisection.specs.Codes.{IsCodeOf, dimensionOf, depthOf, bytes, codeOf, nameOf}
+use Rattle.bisection.specs.Codes.{dimensionOf, depthOf, bytes, codeOf}
 use Rattle.codes.specs.Fronts.{frontLength, frontCode}
 use Rattle.codes.specs.Fronts.Laws.{front-length, front-is-front, front-code-rest}
 use Rattle.fours.specs.declared.Four.{Four}
-use Rattle.fours.specs.Fours.{four, noEntries, SameFour}
+use Rattle.fours.specs.Fours.{four, noEntries}
 use Rattle.fours.specs.Laws.{held-same, pasted}
 use Rattle.next.specs.declared.Next.{Next}
 use Rattle.next.specs.declared.Match.{Match}
 use Rattle.next.specs.Paths.{steps, steps-length, steps-good, zeros, zeros-length}
 use Rattle.next.specs.Names.{nameAt, allBoxes, rooted-some, name-is, name-passes-at, zeros-entries, zeros-front}
-use Rattle.next.specs.Digits.{digits, SameDigits, digits-take}
+use Rattle.next.specs.Digits.{digits, digits-take}
 use Rattle.next.specs.Nexts.{entriesOf, Stands, First, Matched, MatchIs, AfterReady}
 
 -- the bytes of the code of depth D, and a rest
@@ -47,7 +46,16 @@ module _ {d : ℕ} {s : Next} {root : List ℕ} {p : List Bool} (st : Stands d s
   -- the code of a first cell inside
   code-bytes : (n : ℕ) → n + length p ≤ greatestDepth d → codeOf root (steps (zeros n p)) ≡ d ∷ (n + length p) ∷ (es ++ digits (boxDepth d (n + length p)) (s .boxes))
   unfolding codeOf bytes
-  code-bytes n h = rw (st .cell .rooted .axes, steps-length (zeros n p), zeros-length n p, name-is (st .cell .rooted) (zeros n p), zeros-entries (st .cell .rooted) n p, zeros-front (st .cell .rooted) n p h, boxes-at (n + length p) h) refl
+  code-bytes n h = rw (
+    st .cell .rooted .axes,
+    steps-length (zeros n p),
+    zeros-length n p,
+    name-is (st .cell .rooted) (zeros n p),
+    zeros-entries (st .cell .rooted) n p,
+    zeros-front
+        (st .cell .rooted) n p h,
+    boxes-at (n + length p) h,
+  ) refl
 
   first-shaped : {bs : List ℕ} → First root p (frontCode bs) → Shaped d s bs
   first-shaped {bs} f = record {
@@ -93,11 +101,13 @@ module _ {d : ℕ} {s : Next} {bs : List ℕ} (h : Shaped d s bs) where
   shaped-room = omega (arith, length-drop 2 bs, ap length behind, length-append (es (h .stands)) (ds ++ h .rest), length-append ds (h .rest), es-size (h .stands), ds-size, ap length (h .is))
 
   pub shaped-entries : (x : Four) → four x ≡ paste noEntries 0 (drop 2 bs) d → four x ≡ four (entriesOf s)
-  shaped-entries x q = q ∙ pasted (drop 2 bs) d ∙ ap (λ (l : List ℕ). l ++ drop d noEntries) (ap (take d) behind ∙ take-at (es (h .stands)) (ds ++ h .rest) d (es-size (h .stands))) ∙ sym (h .stands .cell .held .is)
+  shaped-entries x q = q ∙ pasted (drop 2 bs) d ∙ ap (λ (l : List ℕ). l ++ drop d noEntries) (ap (take d) behind ∙ take-at (es (h .stands)) (ds ++ h .rest) d (es-size (h .stands)))
+      ∙ sym (h .stands .cell .held .is)
 
   pub shaped-boxes : take (boxDepth d (h .D)) (drop (2 + d) bs) ≡ digits (boxDepth d (h .D)) (s .boxes)
   unfolding ds
-  shaped-boxes = ap (take (boxDepth d (h .D))) (sym (drop-2 bs) ∙ ap (drop d) behind ∙ drop-at (es (h .stands)) (ds ++ h .rest) d (es-size (h .stands))) ∙ take-at ds (h .rest) (boxDepth d (h .D)) ds-size
+  shaped-boxes = ap (take (boxDepth d (h .D))) (sym (drop-2 bs) ∙ ap (drop d) behind ∙ drop-at (es (h .stands)) (ds ++ h .rest) d (es-size (h .stands)))
+      ∙ take-at ds (h .rest) (boxDepth d (h .D)) ds-size
     where
       drop-2 : (l : List ℕ) → drop d (drop 2 l) ≡ drop (2 + d) l
       drop-2 l = drop-drop d 2 l
@@ -107,7 +117,8 @@ pub not-matched : {d : ℕ} {s : Next} {bs : List ℕ} → (Shaped d s bs → �
 not-matched n = record { room = omega arith; hit = λ root p st q. absurd (q refl); told = λ root p st f. absurd (n (first-shaped st f)) }
 
 -- all tests pass
-module _ {d : ℕ} (s : Next) (D L : ℕ) (bs : List ℕ) (dim : getD bs 0 0 ≡ d) (dep : getD bs 1 0 ≡ D) (boxes : L ≡ boxDepth d D) (above : s .depth ≤ D) (deep : D ≤ greatestDepth d) (room : 2 + d + L ≤ length bs) where
+module _ {d : ℕ} (s : Next) (D L : ℕ) (bs : List ℕ) (dim : getD bs 0 0 ≡ d) (dep : getD bs 1 0 ≡ D) (boxes : L ≡ boxDepth d D) (above : s .depth ≤ D) (deep : D ≤ greatestDepth d)
+    (room : 2 + d + L ≤ length bs) where
   front-size : frontLength bs ≡ 2 + d + L
   unfolding codeLength dimensionOf depthOf
   front-size = front-length bs ∙ rw (dim, dep, boxes) refl
@@ -137,8 +148,13 @@ module _ {d : ℕ} (s : Next) (D L : ℕ) (bs : List ℕ) (dim : getD bs 0 0 ≡
             n = D - length p;
             code-of = record {
               good-root = st .cell .rooted .good;
-              good-path = record { steps = steps-good (zeros (D - length p) p) .small; depth = rw (st .cell .rooted .axes, steps-length (zeros (D - length p) p), zeros-length (D - length p) p, whole) deep };
-              is = front ∙ ap (λ (l : List ℕ). d ∷ D ∷ (l ++ take L (drop (2 + d) bs))) entries ∙ ap (λ (l : List ℕ). d ∷ D ∷ (es st ++ l)) (alike ∙ ap (λ (n : ℕ). digits n (s .boxes)) boxes) ∙ sym code;
+              good-path = record {
+                steps = steps-good (zeros (D - length p) p) .small;
+                depth = rw
+                    (st .cell .rooted .axes, steps-length (zeros (D - length p) p), zeros-length (D - length p) p, whole) deep;
+              };
+              is = front ∙ ap (λ (l : List ℕ). d ∷ D ∷ (l ++ take L (drop (2 + d) bs))) entries ∙ ap (λ (l : List ℕ). d ∷ D ∷ (es st ++ l)) (alike ∙ ap (λ (n : ℕ). digits n (s .boxes)) boxes)
+                  ∙ sym code;
             };
           };
           length-is = sym front-size;
@@ -165,5 +181,12 @@ matched-ready {d} {s} {root} {p} {bs} {r} st m = record {
   n = m .first .n;
   stands = st;
   depth-is = m .depth-is;
-  deep = subst (λ (n : ℕ). r .depth ≤ greatestDepth n) (st .cell .rooted .axes) (omega (arith, m .depth-is, m .first .code-of .good-path .depth, steps-length (zeros (m .first .n) p), zeros-length (m .first .n) p));
+  deep = subst (λ (n : ℕ). r .depth ≤ greatestDepth n) (st .cell .rooted .axes) (omega (
+    arith,
+    m .depth-is,
+    m .first .code-of .good-path .depth,
+    steps-length
+        (zeros (m .first .n) p),
+    zeros-length (m .first .n) p,
+  ));
 }

@@ -59,7 +59,8 @@ module _ {d : ℕ} {root : List ℕ} (r : Rooted d root) where
   own-front p = sym (take-at (nameAt d root p .orthants) (replicate (halvings - boxDepth d (length p)) (orthant (nameAt d root p .entries))) (boxDepth d (length p)) (name-passes-at p .boxes .count))
 
   -- one step deeper: the orthants above, and then what the new entries give
-  pub boxes-step : (b : Bool) (p : List Bool) → length p < greatestDepth d → allBoxes d root (b ∷ p) ≡ nameAt d root p .orthants ++ replicate (halvings - boxDepth d (length p)) (orthant (nameAt d root (b ∷ p) .entries))
+  pub boxes-step : (b : Bool) (p : List Bool) → length p < greatestDepth d → allBoxes d root (b ∷ p) ≡ nameAt d root p .orthants ++ replicate (halvings - boxDepth d (length p))
+      (orthant (nameAt d root (b ∷ p) .entries))
   unfolding allBoxes nameAt step
   boxes-step b p h = go (deeper d (length p) rooted-some)
     where
@@ -75,7 +76,8 @@ module _ {d : ℕ} {root : List ℕ} (r : Rooted d root) where
       one-more : halvings - l ≡ suc (halvings - suc l)
       one-more = omega (arith, box-under d (length p) rooted-some h)
 
-      go : Within d (length p) ⊎ Turned d (length p) → cond (eqb (level d (suc (length p))) 0) (os ++ o ∷ []) os ++ replicate (halvings - boxDepth d (suc (length p))) o ≡ os ++ replicate (halvings - l) o
+      go : Within d (length p) ⊎ Turned d (length p) → cond (eqb (level d (suc (length p))) 0) (os ++ o ∷ []) os ++ replicate (halvings - boxDepth d (suc (length p))) o ≡ os ++ replicate
+          (halvings - l) o
       go (inl w) = rw (w .level, w .box) refl
       go (inr w) = rw (w .level, w .box, one-more) (append-assoc os (o ∷ []) (replicate (halvings - suc l) o))
 
@@ -113,7 +115,8 @@ module _ {d : ℕ} {root : List ℕ} (r : Rooted d root) where
           let f : os ++ o ∷ [] ≡ take (suc l) all = rw (w .level, w .box) at h in
           sym (take-at os (o ∷ []) l (name-passes-at p .boxes .count)) ∙ ap (take l) f ∙ take-take l (suc l) all (omega arith)
 
-  pub stripped-front : (q p : List Bool) (all : List ℕ) → stripped q ≡ false ∷ p → nameAt d root q .orthants ≡ take (boxDepth d (length q)) all → nameAt d root p .orthants ≡ take (boxDepth d (length p)) all
+  pub stripped-front : (q p : List Bool) (all : List ℕ) → stripped q ≡ false ∷ p → nameAt d root q .orthants ≡ take (boxDepth d (length q)) all
+      → nameAt d root p .orthants ≡ take (boxDepth d (length p)) all
   unfolding stripped
   stripped-front [] p all h e = absurd (omega (arith, ap length h))
   stripped-front (true ∷ q) p all h e = stripped-front q p all h (above-front true q all e)

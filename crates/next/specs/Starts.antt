@@ -1,16 +1,16 @@
 -- The first cell of a root: the root itself, whose orthants and those of the first cells inside it are all 0. And where the next
 -- cell stands on the line.
 use mathlib.Core.Path.{_≡_, refl, sym, ap, _∙_, subst}
-use mathlib.Core.Bool.{Bool, true, false}
+use mathlib.Core.Bool.{Bool, true}
 use mathlib.Core.List.{List, [], _∷_, _++_}
-use Prim.Native.Nat.{ℕ, zero, suc, _+_, _-_, _*_, _^_, _≤_, _<_}
+use Prim.Native.Nat.{ℕ, _+_, _-_, _*_, _^_, _≤_, _<_}
 use native.Mathlib.Omega.{arith}
 use lib.ListN.{length, getD, drop, replicate}
 use lib.Pow.{pow-pos}
-use Rattle.dimension.specs.Sizes.{axesOf, isDimension, greatestDepth, halvings, boxDepth, rootCount}
+use Rattle.dimension.specs.Sizes.{axesOf, isDimension, greatestDepth, halvings, rootCount}
 use Rattle.dimension.specs.declared.Dim.{Dim}
 use Rattle.dimension.specs.Laws.{at-root, axes-dimension}
-use Rattle.bisection.specs.Roots.{GoodRoot, roots}
+use Rattle.bisection.specs.Roots.{roots}
 use Rattle.bisection.specs.Codes.{axis, orthant}
 use Rattle.bisection.specs.Theorems.Paths.{plain-minus}
 use Rattle.bisection.specs.Theorems.Passing.{orthant-only}
@@ -23,7 +23,7 @@ use Rattle.fours.specs.Fours.{four, noEntries}
 use Rattle.next.specs.declared.Next.{Next}
 use Rattle.next.specs.Paths.{steps, number, start-number}
 use Rattle.next.specs.Names.{nameAt, allBoxes, Rooted, rooted-range, rooted-some, name-passes-at}
-use Rattle.next.specs.Digits.{digits, digits-none}
+use Rattle.next.specs.Digits.{digits-none}
 use Rattle.next.specs.RootTable.{firstRow, rootDigit, row-is}
 use Rattle.next.specs.Nexts.{nextOf, Stands, FirstIs}
 
@@ -56,7 +56,11 @@ module _ (d n : ℕ) (dim : isDimension d ≡ true) where
     root-stands e q = record {
       cell = record {
         rooted = rooted;
-        held = record { signed = name-passes-at rooted [] .signed; is = q ∙ padded root (omega (arith, rooted .axes, rooted-range rooted .few)) ∙ ap (λ (m : ℕ). root ++ drop m noEntries) (rooted .axes) };
+        held = record {
+          signed = name-passes-at rooted [] .signed;
+          is = q ∙ padded root (omega (arith, rooted .axes, rooted-range rooted .few))
+              ∙ ap (λ (m : ℕ). root ++ drop m noEntries) (rooted .axes);
+        };
         path-is = refl;
         depth-is = refl;
       };
@@ -73,7 +77,13 @@ module _ (dim : Dim) (n : ℕ) {f c p : ℕ} (f-is : f ≡ firstRow (axesOf dim)
       → FirstIs (axesOf dim) n (nextOf e 0 0 0)
   first-is e a b x y = record {
     first = λ h. root-stands (axesOf dim) n (axes-dimension dim) h e (let l = subst (λ (m : ℕ). n < m) (roots-count (axesOf dim)) h in
-        rw (a ∙ row-is dim n f-is c-is p-is l 0 (omega arith), b ∙ row-is dim n f-is c-is p-is l 1 (omega arith), x ∙ row-is dim n f-is c-is p-is l 2 (omega arith), y ∙ row-is dim n f-is c-is p-is l 3 (omega arith)) refl);
+        rw (
+          a ∙ row-is dim n f-is c-is p-is l 0 (omega arith),
+          b ∙ row-is dim n f-is c-is p-is l 1 (omega arith),
+          x ∙ row-is dim n f-is c-is p-is l 2 (omega arith),
+          y
+              ∙ row-is dim n f-is c-is p-is l 3 (omega arith),
+        ) refl);
   }
 
 -- the running position on the line costs one shift

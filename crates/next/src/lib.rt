@@ -5,7 +5,7 @@ mod roots; // roots.rt: the roots in dictionary order
 
 ghost use mathlib.Core.Path.{_≡_};
 ghost use mathlib.Core.List.{_++_};
-ghost use Prim.Native.Nat.{_+_, _-_, _≤_, _<_};
+ghost use Prim.Native.Nat.{_+_, _-_, _%_, _≤_, _<_};
 ghost use lib.ListN.{length, take, drop, replicate};
 ghost use Rattle.dimension.specs.Sizes.{axesOf, halvings};
 ghost use Rattle.next.specs.Digits.{digits, SameDigits};
@@ -48,6 +48,13 @@ fn entries(next: Next) -> Four
     }
 }
 
+// The lowest digit of a number.
+fn lowest(w: u64) -> u8
+    ensures { λ r. ⌜ r ≡ w % 16 ⌝ }
+{
+    (w % 16) as u8
+}
+
 // The n bytes from a place on are the first n digits of a number.
 fn same_boxes(bytes: &[u8], at: usize, n: usize, boxes: u64) -> bool
     requires { ⌜ at + n ≤ length (now bytes) ⌝ }
@@ -56,7 +63,7 @@ fn same_boxes(bytes: &[u8], at: usize, n: usize, boxes: u64) -> bool
     let mut left = boxes;
     let mut i: usize = 0;
     while i < n {
-        if positions::wide(bytes[at + i]) != left % 16 {
+        if bytes[at + i] != lowest(left) {
             return false;
         }
         left = left / 16;

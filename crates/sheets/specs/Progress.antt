@@ -26,15 +26,18 @@ use Rattle.next.specs.Matching.{matched-ready}
 use Rattle.sheets.specs.declared.State.{State}
 use Rattle.sheets.specs.declared.SheetAnswer.{SheetAnswer}
 use Rattle.sheets.specs.Forests.{TreeCell, treeCell, Leaves}
-use Rattle.sheets.specs.Sheets.{refusedLeaf, GoodSheet, Begins, behindMark, bodyLength, recordLength, recordRefusal, Read, start, next, told, Checks, good, record-refused, not-next, ended-early}
+use Rattle.sheets.specs.Sheets.{refusedLeaf, GoodSheet, Begins, behindMark, bodyLength, recordLength, recordRefusal, Read, start, next, told, Checks, good, record-refused}
+use Rattle.sheets.specs.Sheets.{not-next, ended-early}
 use Rattle.sheets.specs.Steps.{stateOf, OpenIs, opens, shut, Known, bodyOf, FitsIs, no-dimension, unmarked, no-root, other, cut-short, fitting, MoveReady, MoveIs}
 use Rattle.sheets.specs.Steps as steps-of
 use Rattle.sheets.specs.StepLaws.{parts-marked, parts-passed, record-marked, part-all}
-use Rattle.sheets.specs.Theorems.Frontier.{advance, advance-on, advance-over, Follows, end, leaf, begins-follows, follows-begins, good-follows, follows-good, follows-one, follows-split, follows-join}
+use Rattle.sheets.specs.Theorems.Frontier.{advance, advance-on, advance-over, Follows, end, leaf, begins-follows, follows-begins, good-follows, follows-good, follows-one}
+use Rattle.sheets.specs.Theorems.Frontier.{follows-split, follows-join}
 use Rattle.sheets.specs.Theorems.Frontier as frontier
 use Rattle.sheets.specs.Theorems.Reading.{passed, unmarked-by-code}
 use Rattle.sheets.specs.Theorems.Listing.{GoodCell, recordOf, IsRecord, record-read, Listed, listed-none, listed-more, listed-join, listed-empty, Cut, cut}
-use Rattle.sheets.specs.Theorems.Listing.{CellsIn, cells-none, cells-more, cells-join, cells-front, cells-within, records-listed, listed-records, write, records-join, leaves-cells, same-dimension}
+use Rattle.sheets.specs.Theorems.Listing.{CellsIn, cells-none, cells-more, cells-join, cells-front, cells-within, records-listed, listed-records, write, records-join, leaves-cells}
+use Rattle.sheets.specs.Theorems.Listing.{same-dimension}
 use Rattle.sheets.specs.Theorems.Determined.{record-inside}
 
 -- in dimension d, after these cells: the number of the frontier's root, and the cell of its path
@@ -73,7 +76,8 @@ module _ {d : ℕ} {cells : List TreeCell} {root : ℕ} {cell : Next} (w : Ahead
     ahead-on m (on p e f st) = record {
       cells-in = more-cells;
       path = true ∷ p;
-      follows = subst (Follows (frontier.state (roots d) []) (cells ++ c ∷ [])) (advance-on here rest (zeros n (w .path)) p e ∙ ap (λ (rs : List (List ℕ)). frontier.state rs (true ∷ p)) (sym roots-here)) joined;
+      follows = subst (Follows (frontier.state (roots d) []) (cells ++ c ∷ [])) (advance-on here rest (zeros n (w .path)) p e
+          ∙ ap (λ (rs : List (List ℕ)). frontier.state rs (true ∷ p)) (sym roots-here)) joined;
       root-in = w .root-in;
       stands = λ l. st;
     }
@@ -106,7 +110,13 @@ module _ {d : ℕ} {cells : List TreeCell} {root : ℕ} {cell : Next} (w : Ahead
       let all : r ∷ rs ≡ drop root (roots d) = ap (λ (s : frontier.State). s .roots) e in
       let lt : root < length (roots d) = omega (arith, length-drop root (roots d), ap length all) in
       let first : r ∷ rs ≡ here ∷ drop (suc root) (roots d) = all ∙ drop-cons (roots d) root [] lt in
-      record { root-left = lt; n = n; root-is = sym (ap (λ (y : TreeCell). y .root) a) ∙ cc first; path-is = sym (ap (λ (y : TreeCell). y .path) a) ∙ ap (λ (s : frontier.State). steps (zeros n (s .path))) e }
+      record {
+        root-left = lt;
+        n = n;
+        root-is = sym (ap (λ (y : TreeCell). y .root) a) ∙ cc first;
+        path-is = sym (ap (λ (y : TreeCell). y .path) a)
+            ∙ ap (λ (s : frontier.State). steps (zeros n (s .path))) e;
+      }
 
   taken : (c : TreeCell) {u : frontier.State} → Follows (frontier.state (roots d) []) (cells ++ c ∷ []) u → Taken c
   taken c {u} f =
@@ -147,7 +157,8 @@ pub record Going (mark : List ℕ) (width : ℕ) (sheet : List ℕ) (s : State) 
   pub ready : Ready mark width sheet cells s
 
 pub going-start : (mark : List ℕ) (width : ℕ) (sheet : List ℕ) {s : State} → OpenIs mark sheet s → Going mark width sheet s
-going-start mark width sheet (opens {n = n} {d = d} k q f e) = subst (Going mark width sheet) (sym e) (record { cells = []; behind = behind-none; ready = known k (ahead-first d n f) (λ i c o v. q ∙ sym o ∙ last-dimension [] c v) })
+going-start mark width sheet (opens {n = n} {d = d} k q f e) = subst (Going mark width sheet) (sym e)
+    (record { cells = []; behind = behind-none; ready = known k (ahead-first d n f) (λ i c o v. q ∙ sym o ∙ last-dimension [] c v) })
 going-start mark width sheet (shut h e) = subst (Going mark width sheet) (sym e) (record { cells = []; behind = behind-none; ready = never refl refl (h width) })
 
 some-dimension : (n : ℕ) → isDimension n ≡ true → n ≢ 0
@@ -161,7 +172,8 @@ go-known {mark} {width} {sheet} {s} o = record { known = λ n. by n (o .ready) }
     by n (known k w q) = k
 
 -- a record whose code matches has the length that its bytes tell
-fit-body : (mark : List ℕ) (width : ℕ) (bs : List ℕ) (s : State) {root : List ℕ} {p : List Bool} {m : Match} → Stands (s .dimension) (s .next) root p → Matched root p (behindMark mark bs) m → bodyOf width s m ≡ bodyLength width (behindMark mark bs)
+fit-body : (mark : List ℕ) (width : ℕ) (bs : List ℕ) (s : State) {root : List ℕ} {p : List Bool} {m : Match} → Stands (s .dimension) (s .next) root p → Matched root p (behindMark mark bs) m
+    → bodyOf width s m ≡ bodyLength width (behindMark mark bs)
 unfolding bodyLength
 fit-body mark width bs s st h = rw (h .length-is, axes) refl
   where
@@ -210,7 +222,14 @@ module _ {mark : List ℕ} {width : ℕ} {sheet : List ℕ} {s : State} (o : Goi
   begins-first : Begins mark width (take (s .offset + n) sheet) → isDimension (s .dimension) ≡ true → (w : Ahead (s .dimension) (o .cells) (s .root) (s .next))
       → ((d : ℕ) (c : TreeCell) → length (c .root) ≡ frontDimension (behindMark mark bs) → CellsIn d (o .cells ++ c ∷ []) → s .dimension ≡ d)
       → (s .root < length (roots (s .dimension))) × First (getD (roots (s .dimension)) (s .root) []) (w .path) (frontCode (behindMark mark bs))
-  begins-first b k w q = (t .root-left, record { n = t .n; code-of = subst (λ (r : List ℕ). IsCodeOf (frontCode (behindMark mark bs)) r (steps (zeros (t .n) (w .path)))) (t .root-is) (subst (IsCodeOf (frontCode (behindMark mark bs)) (c .root)) (t .path-is) code-of) })
+  begins-first b k w q = (
+    t .root-left,
+    record {
+      n = t .n;
+      code-of = subst (λ (r : List ℕ). IsCodeOf (frontCode (behindMark mark bs)) r (steps (zeros (t .n) (w .path)))) (t .root-is)
+          (subst (IsCodeOf (frontCode (behindMark mark bs)) (c .root)) (t .path-is) code-of);
+    },
+  )
     where
       l : Cut mark width (b .good .cells) (o .cells ++ c ∷ []) (b .rest)
       l = cut mark width (b .rest) more-listed (listed-good (b .good)) refl
@@ -250,7 +269,15 @@ module _ {mark : List ℕ} {width : ℕ} {sheet : List ℕ} {s : State} (o : Goi
         record {
           rest = x .sheet;
           count = length ((o .cells ++ c ∷ []) ++ r .0);
-          good = record { dimension = d; is-dimension = k; cells = (o .cells ++ c ∷ []) ++ r .0; leaves = r .1; records = records-join (listed-records (w .cells-in) more-listed) (x .records); count = refl };
+          good = record {
+            dimension = d;
+            is-dimension = k;
+            cells = (o .cells ++ c ∷ []) ++ r .0;
+            leaves = r .1;
+            records = records-join (listed-records (w .cells-in) more-listed)
+                (x .records);
+            count = refl;
+          };
         }
 
     behind-on : Going mark width sheet (stateOf (s .offset + n) (s .records + 1) d root cell)
@@ -294,7 +321,8 @@ module _ {mark : List ℕ} {width : ℕ} {sheet : List ℕ} {s : State} (o : Goi
         ahead = w;
         root-left = left;
         match = at;
-        ok = sym (record-marked mark width (drop (s .offset) sheet) m done (sym (unmarked-by-code width (behindMark mark (drop (s .offset) sheet)) passes (subst (λ (i : ℕ). i ≤ length (behindMark mark (drop (s .offset) sheet))) size l))));
+        ok = sym (record-marked mark width (drop (s .offset) sheet) m done (sym (unmarked-by-code width (behindMark mark (drop (s .offset) sheet)) passes
+            (subst (λ (i : ℕ). i ≤ length (behindMark mark (drop (s .offset) sheet))) size l))));
         size = size;
       }
         where
@@ -346,7 +374,8 @@ module _ {mark : List ℕ} {width : ℕ} {sheet : List ℕ} {s : State} (o : Goi
       gone : {x : Onward} → AfterIs (s .dimension) (s .next) (r .depth) x → Gone (s .dimension) here (zeros (f .match .first .n) (f .ahead .path)) x
       gone a = a .gone here (f .ahead .path) (f .match .first .n) (f .ahead .stands (f .root-left)) (f .match .depth-is)
 
-      to : {root : ℕ} {cell : Next} → Ahead (s .dimension) (o .cells ++ it o (f .ok) .of ∷ []) root cell → t ≡ stateOf (s .offset + (2 + bodyOf width s r)) (s .records + 1) (s .dimension) root cell → Moved mark width sheet s t
+      to : {root : ℕ} {cell : Next} → Ahead (s .dimension) (o .cells ++ it o (f .ok) .of ∷ []) root cell
+          → t ≡ stateOf (s .offset + (2 + bodyOf width s r)) (s .records + 1) (s .dimension) root cell → Moved mark width sheet s t
       to {root} {cell} w e = subst (Moved mark width sheet s) (sym (e ∙ ap (λ (i : ℕ). stateOf (s .offset + i) (s .records + 1) (s .dimension) root cell) long))
           (record { going-on = behind-on o (f .ok) (s .dimension) (f .dimension-known) w; farther = omega (arith, record-inside mark width (drop (s .offset) sheet) (f .ok) .1) })
 
@@ -398,7 +427,8 @@ module _ {mark : List ℕ} {width : ℕ} {sheet : List ℕ} {s : State} (g : Goi
     some-cells : {m : ℕ} → GoodSheet mark width sheet m → g .cells ≢ []
     some-cells h a =
         let x = over-in h in
-        let no-roots : roots (h .dimension) ≡ [] = ap (λ (x : frontier.State). x .roots) (follows-one end (subst (λ (l : List TreeCell). Follows (frontier.state (roots (h .dimension)) []) l (x .0)) a (x .1))) ∙ x .2 in
+        let no-roots : roots (h .dimension) ≡ [] = ap (λ (x : frontier.State). x .roots) (follows-one end
+        (subst (λ (l : List TreeCell). Follows (frontier.state (roots (h .dimension)) []) l (x .0)) a (x .1))) ∙ x .2 in
         omega (arith, roots-some (h .dimension), ap length no-roots)
 
     pub go-fresh : s .dimension ≡ 0 → Checks mark width sheet (told refusedLeaf (s .offset) 0)
@@ -415,7 +445,8 @@ module _ {mark : List ℕ} {width : ℕ} {sheet : List ℕ} {s : State} (g : Goi
         none (never a b y) h = z b
         none (known a w y) h =
             let x = over-in h in
-            let e : h .dimension ≡ s .dimension = same-dimension (some-of (g .cells) (some-cells h)) (subst (CellsIn (h .dimension)) (the-cells h) (leaves-cells (h .dimension) (h .is-dimension) (h .leaves))) (w .cells-in) in
+            let e : h .dimension ≡ s .dimension = same-dimension (some-of (g .cells) (some-cells h))
+            (subst (CellsIn (h .dimension)) (the-cells h) (leaves-cells (h .dimension) (h .is-dimension) (h .leaves))) (w .cells-in) in
             let f : Follows (frontier.state (roots (s .dimension)) []) (g .cells) (x .0) = subst (λ (d : ℕ). Follows (frontier.state (roots d) []) (g .cells) (x .0)) e (x .1) in
             let none-left : drop (s .root) (roots (s .dimension)) ≡ [] = ap (λ (x : frontier.State). x .roots) (follows-one (w .follows) f) ∙ x .2 in
             q (omega (arith, w .root-in, length-drop (s .root) (roots (s .dimension)), ap length none-left, roots-count (s .dimension)))
@@ -434,11 +465,13 @@ module _ {mark : List ℕ} {width : ℕ} {sheet : List ℕ} {s : State} (g : Goi
               cells = g .cells;
               records = listed-records (w .cells-in) all-listed;
               count = g .behind .count;
-              leaves = follows-good (subst (λ (rs : List (List ℕ)). Follows (frontier.state (roots (s .dimension)) []) (g .cells) (frontier.state rs (w .path))) none-left (w .follows)) (cells-within (w .cells-in));
+              leaves = follows-good (subst (λ (rs : List (List ℕ)). Follows (frontier.state (roots (s .dimension)) []) (g .cells) (frontier.state rs (w .path))) none-left (w .follows))
+                  (cells-within (w .cells-in));
             }) refl
 
 -- an answer by its fields
-pub answer-told : {mark : List ℕ} {width : ℕ} {sheet : List ℕ} (a : SheetAnswer) (x y : ℕ) → (a .refusal ≡ x) × (a .offset ≡ y) × (a .records ≡ 0) → Checks mark width sheet (told x y 0) → Checks mark width sheet a
+pub answer-told : {mark : List ℕ} {width : ℕ} {sheet : List ℕ} (a : SheetAnswer) (x y : ℕ) → (a .refusal ≡ x) × (a .offset ≡ y) × (a .records ≡ 0) → Checks mark width sheet (told x y 0)
+    → Checks mark width sheet a
 answer-told {mark} {width} {sheet} a x y e r = subst (Checks mark width sheet) (sym same) r
   where
     same : a ≡ told x y 0

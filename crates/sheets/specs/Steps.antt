@@ -53,7 +53,8 @@ pub data FitsIs (mark : List ℕ) (width : ℕ) (s : State) (bs : List ℕ) (r :
   no-root : s .root ≡ rootCount (s .dimension) → r .length ≡ 0 → FitsIs mark width s bs r
   other : {m : Match} → MatchIs (s .dimension) (s .next) (behindMark mark bs) m → m .length ≡ 0 → r .length ≡ 0 → FitsIs mark width s bs r
   cut-short : {m : Match} → MatchIs (s .dimension) (s .next) (behindMark mark bs) m → m .length ≢ 0 → length (behindMark mark bs) < bodyOf width s m → r .length ≡ 0 → FitsIs mark width s bs r
-  fitting : s .dimension ≢ 0 → isMarked mark bs ≡ true → s .root ≢ rootCount (s .dimension) → MatchIs (s .dimension) (s .next) (behindMark mark bs) r → r .length ≢ 0 → bodyOf width s r ≤ length (behindMark mark bs) → FitsIs mark width s bs r
+  fitting : s .dimension ≢ 0 → isMarked mark bs ≡ true → s .root ≢ rootCount (s .dimension) → MatchIs (s .dimension) (s .next) (behindMark mark bs) r → r .length ≢ 0
+      → bodyOf width s r ≤ length (behindMark mark bs) → FitsIs mark width s bs r
 
 pub record MoveReady (width : ℕ) (s : State) (m : Match) : Type 0 where
   pub dimension : isDimension (s .dimension) ≡ true
@@ -64,6 +65,7 @@ pub record MoveReady (width : ℕ) (s : State) (m : Match) : Type 0 where
 
 -- behind the record, at the cell after its leaf: on the same root, or on the next one
 pub data MoveIs (width : ℕ) (s : State) (m : Match) (r : State) : Type 0 where
-  on : {x : Onward} → AfterIs (s .dimension) (s .next) (m .depth) x → x .more ≡ true → r ≡ stateOf (s .offset + (2 + bodyOf width s m)) (s .records + 1) (s .dimension) (s .root) (x .next) → MoveIs width s m r
+  on : {x : Onward} → AfterIs (s .dimension) (s .next) (m .depth) x → x .more ≡ true → r ≡ stateOf (s .offset + (2 + bodyOf width s m)) (s .records + 1) (s .dimension) (s .root) (x .next)
+      → MoveIs width s m r
   over : {x : Onward} {n : Next} → AfterIs (s .dimension) (s .next) (m .depth) x → x .more ≡ false → FirstIs (s .dimension) (s .root + 1) n
       → r ≡ stateOf (s .offset + (2 + bodyOf width s m)) (s .records + 1) (s .dimension) (s .root + 1) n → MoveIs width s m r

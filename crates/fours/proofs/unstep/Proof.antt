@@ -18,7 +18,8 @@ returns c =
     let pick3 = c .before .before .pick3 in
     let turned-back = c .before .before .before .before .before .turned-back in
     let told = same-sign .ensures ∙ ap (λ (x : ℕ). sameSign (minus x) (high (args .own) (axis x))) (entry .ensures) in
-    rw (pick .ensures, pick2 .ensures, pick3 .ensures, c .before .pick4 .ensures, c .pick5 .ensures) (unstep-is (args .e) (turned-back .result) (args .n) (args .own) (same-sign .result) told (turned-back .ensures))
+    rw (pick .ensures, pick2 .ensures, pick3 .ensures, c .before .pick4 .ensures, c .pick5 .ensures)
+    (unstep-is (args .e) (turned-back .result) (args .n) (args .own) (same-sign .result) told (turned-back .ensures))
 
 pub unstep-spec : {M : Type 1} → statement M
 unstep-spec =

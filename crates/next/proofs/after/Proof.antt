@@ -85,7 +85,8 @@ filled-requires c κs =
     let axes = c .before .before .before .before .axes in
     let place-above = c .before .before .before .place-above in
     let turned-on = c .before .before .turned-on in
-    after-fill (pre) _ (power .ensures) _ (rw (entries .ensures) at (climb .ensures)) (if1 .left) _ (rw (axes .ensures) at (place-above .ensures)) _ (turned-on .ensures) _ (c .own-of .ensures) _ (rw (axes .ensures) at (c .before .boxes-above .ensures))
+    after-fill (pre) _ (power .ensures) _ (rw (entries .ensures) at (climb .ensures)) (if1 .left) _ (rw (axes .ensures) at (place-above .ensures)) _ (turned-on .ensures) _
+    (c .own-of .ensures) _ (rw (axes .ensures) at (c .before .boxes-above .ensures))
 
 add-t11 : tie.Need-add-t11
 add-t11 c =
@@ -108,7 +109,8 @@ returns-2 c =
     let turned-on = c .before .before .before .before .turned-on in
     let own-of = c .before .before .own-of in
     let boxes-above = c .before .before .before .boxes-above in
-    after-on (pre) _ (power .ensures) _ (rw (entries .ensures) at (climb .ensures)) (if1 .left) _ (rw (axes .ensures) at (place-above .ensures)) _ (turned-on .ensures) _ (own-of .ensures) _ (rw (axes .ensures) at (boxes-above .ensures)) _ (c .before .filled .ensures)
+    after-on (pre) _ (power .ensures) _ (rw (entries .ensures) at (climb .ensures)) (if1 .left) _ (rw (axes .ensures) at (place-above .ensures)) _ (turned-on .ensures) _ (own-of .ensures) _
+    (rw (axes .ensures) at (boxes-above .ensures)) _ (c .before .filled .ensures)
 
 pub after-spec : {M : Type 1} → statement M
 after-spec =

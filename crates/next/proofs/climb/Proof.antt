@@ -11,7 +11,8 @@ use Rattle.next.proofs.climb.Statement.{statement}
 use Rattle.next.proofs.climb.Tie as tie
 
 abbrev Inv-loop : tie.InvT-loop
-Inv-loop path depth axes first₀ second₀ third₀ fourth₀ left₀ t₀ boxes₀ k₀ first second third fourth left t boxes k = Loop axes (fourOf first₀ second₀ third₀ fourth₀) path depth (fourOf first second third fourth) left t k boxes
+Inv-loop path depth axes first₀ second₀ third₀ fourth₀ left₀ t₀ boxes₀ k₀ first second third fourth left t boxes k = Loop axes (fourOf first₀ second₀ third₀ fourth₀) path depth
+    (fourOf first second third fourth) left t k boxes
 
 abbrev μ-loop : tie.MeasureT-loop
 μ-loop path depth axes first₀ second₀ third₀ fourth₀ left₀ t₀ boxes₀ k₀ first second third fourth left t boxes k = t

@@ -1,7 +1,5 @@
 -- `filled` meets its contract.
-use mathlib.Core.Path.{sym, ap}
 use native.Mathlib.Omega.{arith}
-use Prim.Native.Nat.{ℕ}
 use Rattle.next.specs.Digits.{fill-places, fill-some, fill-high, fill-low, fill-is}
 use borrow.Author.Needs.{needs}
 use Rattle.next.proofs.filled.Statement.{statement}
@@ -38,7 +36,14 @@ add-result : tie.Need-add-result
 add-result c =
     let args = c .before .before .args in
     let pre = c .before .before .pre in
-    record { fits = rw (c .wide .ensures) (omega (arith, fill-high (args .from) (args .own) (pre .0) (pre .1) _ (c .before .power .ensures), fill-low (args .from) (args .own) (pre .0) (pre .1) _ (c .before .power .ensures) (args .boxes))) }
+    record {
+      fits = rw (c .wide .ensures) (omega (
+        arith,
+        fill-high (args .from) (args .own) (pre .0) (pre .1) _ (c .before .power .ensures),
+        fill-low (args .from) (args .own) (pre .0)
+            (pre .1) _ (c .before .power .ensures) (args .boxes),
+      ));
+    }
 
 returns : tie.Need-returns
 returns c =

@@ -87,7 +87,8 @@ returns-5 c =
     let entries = c .before .before .entries in
     let entries-of = c .before .before .before .entries-of in
     let axes = c .before .before .before .before .before .before .before .before .before .before .before .before .before .before .before .axes in
-    not-matched (λ h. subst T (sym ((rw (entries .ensures) at (c .before .same .ensures)) .told (shaped-entries h (entries-of .result) (rw (axes .ensures) at (entries-of .ensures)))) ∙ not-true _ (c .if5 .taken)) tt)
+    not-matched (λ h. subst T (sym ((rw (entries .ensures) at (c .before .same .ensures)) .told (shaped-entries h (entries-of .result) (rw (axes .ensures) at (entries-of .ensures))))
+    ∙ not-true _ (c .if5 .taken)) tt)
 
 add-same-boxes : tie.Need-add-same-boxes
 add-same-boxes c = search needs
@@ -121,7 +122,8 @@ returns-7 c =
     let same = c .before .before .before .same in
     let if5 = c .before .before .if5 in
     subst (λ (m : ℕ). MatchIs m (args .next) (args .bytes .now) (record { length = 2 + axes .result + box-depth .result; depth = size .result })) (axes .ensures)
-    (matched (args .next) (size .result) (box-depth .result) (args .bytes .now) (sym (size2 .ensures) ∙ if1 .left) (sym (size .ensures)) (box-depth .ensures ∙ ap (λ (m : ℕ). boxDepth m (size .result)) (sym (axes .ensures)))
+    (matched (args .next) (size .result) (box-depth .result) (args .bytes .now) (sym (size2 .ensures) ∙ if1 .left) (sym (size .ensures))
+    (box-depth .ensures ∙ ap (λ (m : ℕ). boxDepth m (size .result)) (sym (axes .ensures)))
     (if2 .left) (subst (λ (m : ℕ). size .result ≤ greatestDepth m) (sym (axes .ensures)) (rw (greatest-depth .ensures) at (if3 .left))) (if4 .left) (entries-of .result) (entries-of .ensures)
     ((rw (entries .ensures) at (same .ensures)) .equal (not-false _ (if5 .left))) (c .before .same-boxes .ensures .equal (not-false _ (c .if6 .left))))
 

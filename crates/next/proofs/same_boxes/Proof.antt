@@ -1,7 +1,6 @@
 -- `same_boxes` meets its contract. The loop keeps: all are the same exactly where the rest is.
 use mathlib.Core.Path.{sym, _∙_}
 use Prim.Native.Nat.{_-_}
-use native.Mathlib.Omega.{arith}
 use Rattle.next.specs.Digits.{Comparing, comparing-start, comparing-on, compared-not, compared}
 use borrow.Author.Needs.{needs}
 use Rattle.next.proofs.same_boxes.Statement.{statement}
@@ -16,21 +15,21 @@ abbrev μ-loop : tie.MeasureT-loop
 loop-holds : tie.Need-loop-holds Inv-loop μ-loop
 loop-holds c = comparing-start _ _ _ _
 
-add-wide : tie.Need-add-wide Inv-loop μ-loop
-add-wide c = search needs
+add-if1 : tie.Need-add-if1 Inv-loop μ-loop
+add-if1 c = search needs
 
-shared-slice-read-wide : tie.Need-shared-slice-read-wide Inv-loop μ-loop
-shared-slice-read-wide c = search needs
+shared-slice-read-if1 : tie.Need-shared-slice-read-if1 Inv-loop μ-loop
+shared-slice-read-if1 c = search needs
 
-wide-requires : tie.Need-wide-requires Inv-loop μ-loop
-wide-requires c κs = search needs
+lowest-requires : tie.Need-lowest-requires Inv-loop μ-loop
+lowest-requires c κs = search needs
 
 returns : tie.Need-returns Inv-loop μ-loop
 returns c =
     let loop = c .before .before .before .before .loop in
     let loop-test = c .before .before .before .loop-test in
     let pre = c .before .before .before .before .before .before .pre in
-    compared-not (loop .inv) (loop-test .taken) (pre) (λ q. c .if1 .taken (c .before .wide .ensures ∙ q))
+    compared-not (loop .inv) (loop-test .taken) (pre) (λ q. c .if1 .taken (q ∙ sym (c .before .lowest .ensures)))
 
 add-i : tie.Need-add-i Inv-loop μ-loop
 add-i c = search needs
@@ -43,7 +42,7 @@ loop-again c =
     let loop = c .before .before .before .before .loop in
     let loop-test = c .before .before .before .loop-test in
     let pre = c .before .before .before .before .before .before .pre in
-    comparing-on (loop .inv) (loop-test .taken) (pre) (sym (c .before .wide .ensures) ∙ c .if1 .left)
+    comparing-on (loop .inv) (loop-test .taken) (pre) (c .if1 .left ∙ c .before .lowest .ensures)
 
 returns-2 : tie.Need-returns-2 Inv-loop μ-loop
 returns-2 c = compared (c .before .loop .inv) (c .loop-test .left)
@@ -55,9 +54,9 @@ same-boxes-spec =
     Inv-loop
     μ-loop
     loop-holds
-    add-wide
-    shared-slice-read-wide
-    wide-requires
+    add-if1
+    shared-slice-read-if1
+    lowest-requires
     returns
     add-i
     loop-less

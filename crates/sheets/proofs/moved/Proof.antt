@@ -19,7 +19,8 @@ returns c =
     let args = c .before .before .before .before .before .before .before .before .args in
     let samples-length = c .before .before .before .before .before .before .samples-length in
     on (rw (checked .ensures) at (after .ensures)) (c .before .if1 .taken)
-    (ap (λ (n : ℕ). stateOf (args .state .offset + (2 + (args .found .length + n))) (args .state .records + 1) (args .state .dimension) (args .state .root) (after .result .next)) (samples-length .ensures .0))
+    (ap (λ (n : ℕ). stateOf (args .state .offset + (2 + (args .found .length + n))) (args .state .records + 1) (args .state .dimension) (args .state .root) (after .result .next))
+    (samples-length .ensures .0))
 
 returns-2 : tie.Need-returns-2
 returns-2 c =
@@ -29,7 +30,8 @@ returns-2 c =
     let args = c .before .before .before .before .before .before .before .before .before .args in
     let samples-length = c .before .before .before .before .before .before .before .samples-length in
     over (rw (checked .ensures) at (after .ensures)) (if1 .left) (rw (checked .ensures) at (c .first .ensures))
-    (ap (λ (n : ℕ). stateOf (args .state .offset + (2 + (args .found .length + n))) (args .state .records + 1) (args .state .dimension) (args .state .root + 1) (c .first .result)) (samples-length .ensures .0))
+    (ap (λ (n : ℕ). stateOf (args .state .offset + (2 + (args .found .length + n))) (args .state .records + 1) (args .state .dimension) (args .state .root + 1) (c .first .result))
+    (samples-length .ensures .0))
 
 pub moved-spec : {M : Type 1} → statement M
 moved-spec =

@@ -9,13 +9,15 @@ mul-result : tie.Need-mul-result
 mul-result c =
     let the-args = c .before .before .args in
     let args = the-args in
-    let small = samples-as (args .width) (args .dimension) _ _ (c .before .size .ensures) (c .size2 .ensures) in omega (arith, small .1, samples-small (args .width) (args .dimension) (omega arith) (omega arith))
+    let small = samples-as (args .width) (args .dimension) _ _ (c .before .size .ensures) (c .size2 .ensures) in omega
+    (arith, small .1, samples-small (args .width) (args .dimension) (omega arith) (omega arith))
 
 returns : tie.Need-returns
 returns c =
     let the-args = c .before .before .args in
     let args = the-args in
-    let small = samples-as (args .width) (args .dimension) _ _ (c .before .size .ensures) (c .size2 .ensures) in (small .1, omega (arith, small .1, samples-small (args .width) (args .dimension) (omega arith) (omega arith)))
+    let small = samples-as (args .width) (args .dimension) _ _ (c .before .size .ensures) (c .size2 .ensures) in
+    (small .1, omega (arith, small .1, samples-small (args .width) (args .dimension) (omega arith) (omega arith)))
 
 pub samples-length-spec : {M : Type 1} → statement M
 samples-length-spec =

@@ -14,7 +14,8 @@ use Rattle.sheets.specs.Theorems.Frontier.{state, advance}
 module _ (M : ℕ) where
   -- the frontier followed by zeros starts where the frontier does
   pub start-zeros : (n : ℕ) (p : List Bool) → n + length p ≤ M → startOf M (steps (zeros n p)) ≡ startOf M (steps p)
-  start-zeros n p h = start-number M (zeros n p) (omega (arith, zeros-length n p)) ∙ rw (number-zeros n p, zeros-length n p) (mul-assoc (number p) (2 ^ n) (2 ^ (M - (n + length p))) ∙ ap (λ (x : ℕ). number p * x) (sym parts)) ∙ sym (start-number M p (omega arith))
+  start-zeros n p h = start-number M (zeros n p) (omega (arith, zeros-length n p)) ∙ rw (number-zeros n p, zeros-length n p)
+      (mul-assoc (number p) (2 ^ n) (2 ^ (M - (n + length p))) ∙ ap (λ (x : ℕ). number p * x) (sym parts)) ∙ sym (start-number M p (omega arith))
     where
       sum : M - length p ≡ n + (M - (n + length p))
       sum = omega arith
