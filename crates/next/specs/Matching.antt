@@ -113,7 +113,7 @@ module _ {d : ℕ} {s : Next} {bs : List ℕ} (h : Shaped d s bs) where
       drop-2 l = drop-drop d 2 l
 
 -- a test that fails
-pub not-matched : {d : ℕ} {s : Next} {bs : List ℕ} → (Shaped d s bs → ⊥) → MatchIs d s bs (record { length = 0; depth = 0 })
+pub not-matched : {d : ℕ} {s : Next} {bs : List ℕ} → (Shaped d s bs → ⊥) → MatchIs d s bs (record { length = 0; depth = 0; boxes = 0 })
 not-matched n = record { room = omega arith; hit = λ root p st q. absurd (q refl); told = λ root p st f. absurd (n (first-shaped st f)) }
 
 -- all tests pass
@@ -139,10 +139,10 @@ module _ {d : ℕ} (s : Next) (D L : ℕ) (bs : List ℕ) (dim : getD bs 0 0 ≡
       two = first-two bs (omega arith) ∙ rw (dim, dep) refl
 
   module _ (x : Four) (x-is : four x ≡ paste noEntries 0 (drop 2 bs) d) (same : four x ≡ four (entriesOf s)) (alike : take L (drop (2 + d) bs) ≡ digits L (s .boxes)) where
-    pub matched : MatchIs d s bs (record { length = 2 + d + L; depth = D })
+    pub matched : MatchIs d s bs (record { length = 2 + d + L; depth = D; boxes = L })
     matched = record { room = room; hit = λ root p st q. hit root p st; told = λ root p st f q. omega (arith, q) }
       where
-        hit : (root : List ℕ) (p : List Bool) → Stands d s root p → Matched root p bs (record { length = 2 + d + L; depth = D })
+        hit : (root : List ℕ) (p : List Bool) → Stands d s root p → Matched root p bs (record { length = 2 + d + L; depth = D; boxes = L })
         hit root p st = record {
           first = record {
             n = D - length p;
@@ -159,6 +159,7 @@ module _ {d : ℕ} (s : Next) (D L : ℕ) (bs : List ℕ) (dim : getD bs 0 0 ≡
           };
           length-is = sym front-size;
           depth-is = sym whole;
+          boxes-are = boxes ∙ ap (λ (n : ℕ). boxDepth n D) (sym (st .cell .rooted .axes));
         }
           where
             whole : D - length p + length p ≡ D
@@ -190,3 +191,6 @@ matched-ready {d} {s} {root} {p} {bs} {r} st m = record {
     zeros-length (m .first .n) p,
   ));
 }
+
+pub matched-boxes : {d : ℕ} {s : Next} {root : List ℕ} {p : List Bool} {bs : List ℕ} {r : Match} → Stands d s root p → Matched root p bs r → r .boxes ≡ boxDepth d (r .depth)
+matched-boxes {r = r} st m = m .boxes-are ∙ ap (λ (n : ℕ). boxDepth n (r .depth)) (st .cell .rooted .axes)

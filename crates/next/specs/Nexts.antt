@@ -47,6 +47,7 @@ pub record Matched (root : List ℕ) (p : List Bool) (bs : List ℕ) (r : Match)
   pub first : First root p (frontCode bs)
   pub length-is : r .length ≡ frontLength bs
   pub depth-is : r .depth ≡ first .n + length p
+  pub boxes-are : r .boxes ≡ boxDepth (length root) (r .depth)
 
 -- the code at the front of bytes is that of the cell or of the first one inside it, exactly where a length is told
 pub record MatchIs (d : ℕ) (s : Next) (bs : List ℕ) (r : Match) : Type 0 where

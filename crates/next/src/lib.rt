@@ -7,7 +7,7 @@ ghost use mathlib.Core.Path.{_≡_};
 ghost use mathlib.Core.List.{_++_};
 ghost use Prim.Native.Nat.{_+_, _-_, _%_, _≤_, _<_};
 ghost use lib.ListN.{length, take, drop, replicate};
-ghost use Rattle.dimension.specs.Sizes.{axesOf, halvings};
+ghost use Rattle.dimension.specs.Sizes.{axesOf, halvings, boxDepth};
 ghost use Rattle.next.specs.Digits.{digits, SameDigits};
 ghost use Rattle.next.specs.Nexts.{entriesOf, MatchIs, ClimbReady, UpIs, AfterReady, AfterIs, FirstIs};
 use dimension::Dim;
@@ -30,10 +30,12 @@ pub struct Next {
     pub path: u64,
 }
 
-// The code of the next cell, or of the first one inside it: its length, 0 where bytes do not begin with one, and its depth.
+// The code of the next cell, or of the first one inside it: its length, 0 where bytes do not begin with one, its depth, and how
+// many boxes it has.
 pub struct Match {
     pub length: usize,
     pub depth: usize,
+    pub boxes: usize,
 }
 
 // The entries of the next cell.
@@ -80,6 +82,7 @@ pub fn matches(next: Next, dim: Dim, bytes: &[u8]) -> Match
     let none = Match {
         length: 0,
         depth: 0,
+        boxes: 0,
     };
     let axes = dim.axes();
     let depth = common::size(bytes[1]);
@@ -103,7 +106,11 @@ pub fn matches(next: Next, dim: Dim, bytes: &[u8]) -> Match
     if !same_boxes(bytes, 2 + axes, boxes, next.boxes) {
         return none;
     }
-    Match { length, depth }
+    Match {
+        length,
+        depth,
+        boxes,
+    }
 }
 
 // A cell on the way up: its entries, its path as a number and its depth; its split place, and how many boxes it has.
@@ -115,9 +122,9 @@ struct Up {
     boxes: usize,
 }
 
-// Drops the 1s at a path's end: up to the first cell whose last step is no 1. Boxes are counted once, and then step by step.
-fn climb(from: Four, path: u64, depth: usize, dim: Dim) -> Up
-    requires { ⌜ ClimbReady (axesOf dim) from path depth ⌝ }
+// Drops the 1s at a path's end: up to the first cell whose last step is no 1. Its boxes are counted step by step.
+fn climb(from: Four, path: u64, depth: usize, count: usize, dim: Dim) -> Up
+    requires { ⌜ ClimbReady (axesOf dim) from path depth × (count ≡ boxDepth (axesOf dim) depth) ⌝ }
     ensures { λ r. ⌜ UpIs (axesOf dim) from path depth r ⌝ }
 {
     let axes = dim.axes();
@@ -127,8 +134,8 @@ fn climb(from: Four, path: u64, depth: usize, dim: Dim) -> Up
     let mut fourth = from.fourth;
     let mut left = path;
     let mut t = depth;
-    let mut boxes = dim.box_depth(depth);
-    let mut k = axes - (depth - axes * boxes);
+    let mut boxes = count;
+    let mut k = axes - (depth - axes * count);
     while left % 2 == 1 {
         boxes = steps::boxes_above(boxes, k, axes);
         k = steps::place_above(k, axes);
@@ -176,14 +183,14 @@ pub struct Onward {
     pub next: Next,
 }
 
-// The cell after the leaf of a depth that is the next cell or the first one inside it: the 1s at its path's end are dropped, and
+// The cell after the leaf of a depth, with so many boxes, that is the next cell or the first one inside it: the 1s at its path's end are dropped, and
 // the last 0 becomes 1. That costs as many steps up as were gone down.
-pub fn after(next: Next, dim: Dim, depth: usize) -> Onward
-    requires { ⌜ AfterReady (axesOf dim) next depth ⌝ }
+pub fn after(next: Next, dim: Dim, depth: usize, count: usize) -> Onward
+    requires { ⌜ AfterReady (axesOf dim) next depth × (count ≡ boxDepth (axesOf dim) depth) ⌝ }
     ensures { λ r. ⌜ AfterIs (axesOf dim) next depth r ⌝ }
 {
     let path = next.path * positions::power(depth - next.depth);
-    let up = climb(entries(next), path, depth, dim);
+    let up = climb(entries(next), path, depth, count, dim);
     if up.depth == 0 {
         return Onward { more: false, next };
     }

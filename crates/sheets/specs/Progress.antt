@@ -22,7 +22,7 @@ use Rattle.next.specs.declared.Match.{Match}
 use Rattle.next.specs.declared.Onward.{Onward}
 use Rattle.next.specs.Paths.{steps, zeros}
 use Rattle.next.specs.Nexts.{Stands, First, Matched, Gone, on, over, AfterIs, FirstIs}
-use Rattle.next.specs.Matching.{matched-ready}
+use Rattle.next.specs.Matching.{matched-ready, matched-boxes}
 use Rattle.sheets.specs.declared.State.{State}
 use Rattle.sheets.specs.declared.SheetAnswer.{SheetAnswer}
 use Rattle.sheets.specs.Forests.{TreeCell, treeCell, Leaves}
@@ -353,7 +353,7 @@ module _ {mark : List ℕ} {width : ℕ} {sheet : List ℕ} {s : State} (o : Goi
       let room = record-inside mark width (drop (s .offset) sheet) (f .ok) in
       record {
         dimension = f .dimension-known;
-        ready = matched-ready (f .ahead .stands (f .root-left)) (f .match);
+        ready = (matched-ready (f .ahead .stands (f .root-left)) (f .match), matched-boxes (f .ahead .stands (f .root-left)) (f .match));
         root-room = omega (arith, f .root-left, roots-few (s .dimension) (f .dimension-known));
         offset-room = omega (arith, long, room .2, length-drop (s .offset) sheet, o .behind .inside);
         records-room = omega (arith, o .behind .few, room .1, room .2, length-drop (s .offset) sheet);

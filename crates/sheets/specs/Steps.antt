@@ -5,7 +5,7 @@ use mathlib.Core.List.{List, [], _∷_}
 use mathlib.Core.Logic.{_≢_}
 use Prim.Native.Nat.{ℕ, suc, _+_, _*_, _^_, _≤_, _<_}
 use lib.ListN.{length}
-use Rattle.dimension.specs.Sizes.{isDimension, rootCount}
+use Rattle.dimension.specs.Sizes.{isDimension, rootCount, boxDepth}
 use Rattle.bisection.specs.Refusals.{done}
 use Rattle.codes.specs.Fronts.{frontDimension, frontLength}
 use Rattle.next.specs.declared.Next.{Next}
@@ -58,7 +58,7 @@ pub data FitsIs (mark : List ℕ) (width : ℕ) (s : State) (bs : List ℕ) (r :
 
 pub record MoveReady (width : ℕ) (s : State) (m : Match) : Type 0 where
   pub dimension : isDimension (s .dimension) ≡ true
-  pub ready : AfterReady (s .dimension) (s .next) (m .depth)
+  pub ready : AfterReady (s .dimension) (s .next) (m .depth) × (m .boxes ≡ boxDepth (s .dimension) (m .depth))
   pub root-room : s .root + 1 < 2 ^ 64
   pub offset-room : s .offset + (2 + bodyOf width s m) < 2 ^ 64
   pub records-room : s .records + 1 < 2 ^ 64

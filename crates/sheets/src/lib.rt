@@ -167,6 +167,7 @@ fn fits(edition: Edition, state: State, bytes: &[u8]) -> Match
     let none = Match {
         length: 0,
         depth: 0,
+        boxes: 0,
     };
     if state.dimension == 0 {
         return none;
@@ -199,7 +200,7 @@ fn moved(edition: Edition, state: State, found: Match) -> State
     let samples = samples_length(edition.width, dimension);
     let offset = state.offset + (MARK_LENGTH + (found.length + samples));
     let records = state.records + 1;
-    let onward = next::after(state.next, dim, found.depth);
+    let onward = next::after(state.next, dim, found.depth, found.boxes);
     if onward.more {
         let next = onward.next;
         return State {

@@ -6,15 +6,15 @@ use Rattle.next.proofs.after.Statement.{statement}
 use Rattle.next.proofs.after.Tie as tie
 
 sub-power : tie.Need-sub-power
-sub-power c = let above = after-above (c .before .pre) in omega arith
+sub-power c = let above = after-above (c .before .pre .0) in omega arith
 
 power-requires : tie.Need-power-requires
-power-requires c κs = after-short (c .before .pre)
+power-requires c κs = after-short (c .before .pre .0)
 
 mul-path : tie.Need-mul-path
 mul-path c =
     let pre = c .before .before .before .pre in
-    record { fits = after-path (pre) _ (c .before .power .ensures) }
+    record { fits = after-path (pre .0) _ (c .before .power .ensures) }
 
 entries-requires : tie.Need-entries-requires
 entries-requires c κs = search needs
@@ -23,7 +23,7 @@ climb-requires : tie.Need-climb-requires
 climb-requires c κs =
     let pre = c .before .before .before .before .pre in
     let power = c .before .before .power in
-    rw (c .entries .ensures) (after-climb (pre) _ (power .ensures))
+    (rw (c .entries .ensures) (after-climb (pre .0) _ (power .ensures)), pre .1)
 
 returns : tie.Need-returns
 returns c =
@@ -31,7 +31,7 @@ returns c =
     let power = c .before .before .before .before .before .power in
     let entries = c .before .before .before .entries in
     let climb = c .before .before .climb in
-    after-over (pre) _ (power .ensures) _ (rw (entries .ensures) at (climb .ensures)) (c .if1 .taken) _
+    after-over (pre .0) _ (power .ensures) _ (rw (entries .ensures) at (climb .ensures)) (c .if1 .taken) _
 
 axes-requires : tie.Need-axes-requires
 axes-requires c κs = search needs
@@ -42,7 +42,7 @@ place-above-requires c κs =
     let power = c .before .before .before .before .before .before .power in
     let entries = c .before .before .before .before .entries in
     let climb = c .before .before .before .climb in
-    after-small (pre) _ (power .ensures) _ (rw (entries .ensures) at (climb .ensures)) (c .before .if1 .left)
+    after-small (pre .0) _ (power .ensures) _ (rw (entries .ensures) at (climb .ensures)) (c .before .if1 .left)
 
 sub-turned-on : tie.Need-sub-turned-on
 sub-turned-on c =
@@ -51,7 +51,7 @@ sub-turned-on c =
     let entries = c .before .before .before .before .before .entries in
     let climb = c .before .before .before .before .climb in
     let if1 = c .before .before .if1 in
-    after-place (pre) _ (power .ensures) _ (rw (entries .ensures) at (climb .ensures)) (if1 .left) _ (rw (c .before .axes .ensures) at (c .place-above .ensures))
+    after-place (pre .0) _ (power .ensures) _ (rw (entries .ensures) at (climb .ensures)) (if1 .left) _ (rw (c .before .axes .ensures) at (c .place-above .ensures))
 
 turned-on-requires : tie.Need-turned-on-requires
 turned-on-requires c κs =
@@ -60,7 +60,7 @@ turned-on-requires c κs =
     let entries = c .before .before .before .before .before .entries in
     let climb = c .before .before .before .before .climb in
     let if1 = c .before .before .if1 in
-    after-turn (pre) _ (power .ensures) _ (rw (entries .ensures) at (climb .ensures)) (if1 .left) _ (rw (c .before .axes .ensures) at (c .place-above .ensures))
+    after-turn (pre .0) _ (power .ensures) _ (rw (entries .ensures) at (climb .ensures)) (if1 .left) _ (rw (c .before .axes .ensures) at (c .place-above .ensures))
 
 boxes-above-requires : tie.Need-boxes-above-requires
 boxes-above-requires c κs =
@@ -70,7 +70,7 @@ boxes-above-requires c κs =
     let entries = c .before .before .before .before .before .before .entries in
     let climb = c .before .before .before .before .before .climb in
     let if1 = c .before .before .before .if1 in
-    rw (axes .ensures) (after-boxes (pre) _ (power .ensures) _ (rw (entries .ensures) at (climb .ensures)) (if1 .left))
+    rw (axes .ensures) (after-boxes (pre .0) _ (power .ensures) _ (rw (entries .ensures) at (climb .ensures)) (if1 .left))
 
 own-of-requires : tie.Need-own-of-requires
 own-of-requires c κs = search needs
@@ -85,17 +85,17 @@ filled-requires c κs =
     let axes = c .before .before .before .before .axes in
     let place-above = c .before .before .before .place-above in
     let turned-on = c .before .before .turned-on in
-    after-fill (pre) _ (power .ensures) _ (rw (entries .ensures) at (climb .ensures)) (if1 .left) _ (rw (axes .ensures) at (place-above .ensures)) _ (turned-on .ensures) _
+    after-fill (pre .0) _ (power .ensures) _ (rw (entries .ensures) at (climb .ensures)) (if1 .left) _ (rw (axes .ensures) at (place-above .ensures)) _ (turned-on .ensures) _
     (c .own-of .ensures) _ (rw (axes .ensures) at (c .before .boxes-above .ensures))
 
-add-t11 : tie.Need-add-t11
-add-t11 c =
+add-t12 : tie.Need-add-t12
+add-t12 c =
     let pre = c .before .before .before .before .before .before .before .before .before .before .before .before .before .before .pre in
     let power = c .before .before .before .before .before .before .before .before .before .before .before .before .power in
     let entries = c .before .before .before .before .before .before .before .before .before .before .entries in
     let climb = c .before .before .before .before .before .before .before .before .before .climb in
     let if1 = c .before .before .before .before .before .before .before .if1 in
-    record { fits = after-number (pre) _ (power .ensures) _ (rw (entries .ensures) at (climb .ensures)) (if1 .left) }
+    record { fits = after-number (pre .0) _ (power .ensures) _ (rw (entries .ensures) at (climb .ensures)) (if1 .left) }
 
 returns-2 : tie.Need-returns-2
 returns-2 c =
@@ -109,7 +109,7 @@ returns-2 c =
     let turned-on = c .before .before .before .before .turned-on in
     let own-of = c .before .before .own-of in
     let boxes-above = c .before .before .before .boxes-above in
-    after-on (pre) _ (power .ensures) _ (rw (entries .ensures) at (climb .ensures)) (if1 .left) _ (rw (axes .ensures) at (place-above .ensures)) _ (turned-on .ensures) _ (own-of .ensures) _
+    after-on (pre .0) _ (power .ensures) _ (rw (entries .ensures) at (climb .ensures)) (if1 .left) _ (rw (axes .ensures) at (place-above .ensures)) _ (turned-on .ensures) _ (own-of .ensures) _
     (rw (axes .ensures) at (boxes-above .ensures)) _ (c .before .filled .ensures)
 
 pub after-spec : {M : Type 1} → statement M
@@ -129,5 +129,5 @@ after-spec =
     boxes-above-requires
     own-of-requires
     filled-requires
-    add-t11
+    add-t12
     returns-2)

@@ -11,38 +11,27 @@ use Rattle.next.proofs.climb.Statement.{statement}
 use Rattle.next.proofs.climb.Tie as tie
 
 abbrev Inv-loop : tie.InvT-loop
-Inv-loop path depth axes first₀ second₀ third₀ fourth₀ left₀ t₀ boxes₀ k₀ first second third fourth left t boxes k = Loop axes (fourOf first₀ second₀ third₀ fourth₀) path depth
+Inv-loop path depth count axes first₀ second₀ third₀ fourth₀ left₀ t₀ boxes₀ k₀ first second third fourth left t boxes k = Loop axes (fourOf first₀ second₀ third₀ fourth₀) path depth
     (fourOf first second third fourth) left t k boxes
 
 abbrev μ-loop : tie.MeasureT-loop
-μ-loop path depth axes first₀ second₀ third₀ fourth₀ left₀ t₀ boxes₀ k₀ first second third fourth left t boxes k = t
+μ-loop path depth count axes first₀ second₀ third₀ fourth₀ left₀ t₀ boxes₀ k₀ first second third fourth left t boxes k = t
 
 axes-requires : tie.Need-axes-requires Inv-loop μ-loop
 axes-requires c κs = search needs
 
-box-depth-requires : tie.Need-box-depth-requires Inv-loop μ-loop
-box-depth-requires c κs = search needs
-
 mul-k : tie.Need-mul-k Inv-loop μ-loop
-mul-k c =
-    let args = c .before .before .args in
-    record { fits = split-fits _ (args .depth) _ _ (c .before .axes .ensures) (c .box-depth .ensures) (omega arith) }
+mul-k c = record { fits = split-fits _ (c .before .args .depth) _ _ (c .axes .ensures) (c .before .pre .1) (omega arith) }
 
 sub-k : tie.Need-sub-k Inv-loop μ-loop
-sub-k c =
-    let args = c .before .before .args in
-    split-sub _ (args .depth) _ _ (c .before .axes .ensures) (c .box-depth .ensures)
+sub-k c = split-sub _ (c .before .args .depth) _ _ (c .axes .ensures) (c .before .pre .1)
 
 sub-k-2 : tie.Need-sub-k-2 Inv-loop μ-loop
-sub-k-2 c =
-    let args = c .before .before .args in
-    split-rest _ (args .depth) _ _ (omega (arith, axes-range (args .dim) .two)) (c .before .axes .ensures) (c .box-depth .ensures)
+sub-k-2 c = split-rest _ (c .before .args .depth) _ _ (omega (arith, axes-range (c .before .args .dim) .two)) (c .axes .ensures) (c .before .pre .1)
 
 loop-holds : tie.Need-loop-holds Inv-loop μ-loop
-loop-holds c =
-    let args = c .before .before .args in
-    let pre = c .before .before .pre in
-    loop-start _ (subst (λ (m : ℕ). ClimbReady m (args .from) (args .path) (args .depth)) (sym (c .before .axes .ensures)) (pre)) (rw (c .before .axes .ensures) (c .box-depth .ensures))
+loop-holds c = loop-start _ (subst (λ (m : ℕ). ClimbReady m (c .before .args .from) (c .before .args .path) (c .before .args .depth)) (sym (c .axes .ensures)) (c .before .pre .0))
+    (rw (c .axes .ensures) (c .before .pre .1))
 
 boxes-above-requires : tie.Need-boxes-above-requires Inv-loop μ-loop
 boxes-above-requires c κs = loop-boxes (c .before .loop .inv) (c .loop-test .taken)
@@ -85,7 +74,7 @@ loop-again c =
 
 returns : tie.Need-returns Inv-loop μ-loop
 returns c =
-    let axes = c .before .before .before .axes in
+    let axes = c .before .before .axes in
     rw (axes .ensures) at (loop-end (c .before .loop .inv) (c .loop-test .left))
 
 pub climb-spec : {M : Type 1} → statement M
@@ -95,7 +84,6 @@ climb-spec =
     Inv-loop
     μ-loop
     axes-requires
-    box-depth-requires
     mul-k
     sub-k
     sub-k-2

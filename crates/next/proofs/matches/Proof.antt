@@ -121,7 +121,7 @@ returns-7 c =
     let entries = c .before .before .before .before .entries in
     let same = c .before .before .before .same in
     let if5 = c .before .before .if5 in
-    subst (λ (m : ℕ). MatchIs m (args .next) (args .bytes .now) (record { length = 2 + axes .result + box-depth .result; depth = size .result })) (axes .ensures)
+    subst (λ (m : ℕ). MatchIs m (args .next) (args .bytes .now) (record { length = 2 + axes .result + box-depth .result; depth = size .result; boxes = box-depth .result })) (axes .ensures)
     (matched (args .next) (size .result) (box-depth .result) (args .bytes .now) (sym (size2 .ensures) ∙ if1 .left) (sym (size .ensures))
     (box-depth .ensures ∙ ap (λ (m : ℕ). boxDepth m (size .result)) (sym (axes .ensures)))
     (if2 .left) (subst (λ (m : ℕ). size .result ≤ greatestDepth m) (sym (axes .ensures)) (rw (greatest-depth .ensures) at (if3 .left))) (if4 .left) (entries-of .result) (entries-of .ensures)
