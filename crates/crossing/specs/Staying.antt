@@ -3,13 +3,13 @@
 use mathlib.Core.Path.{_≡_, refl, sym, ap, _∙_, subst}
 use mathlib.Core.Logic.{_≢_}
 use mathlib.Core.Bool.{Bool, true, false, cond}
-use mathlib.Core.List.{List, _∷_, _++_, append-assoc}
-use Prim.Native.Nat.{ℕ, suc, _+_, _≤_, _<_}
+use mathlib.Core.List.{List, _++_}
+use Prim.Native.Nat.{ℕ, _+_, _≤_, _<_}
 use native.Mathlib.Omega.{arith}
 use native.Mathlib.Decide.{decLt}
 use lib.Dec.{eqb}
-use lib.ListN.{length, getD, take, drop, length-append, List·getD-append}
-use lib.Seq.{take-at, drop-at, paste}
+use lib.ListN.{length, getD, take, drop, List·getD-append}
+use lib.Seq.{take-at, paste}
 use borrow.Author.Tests.{eq-eqb, ne-eqb}
 use Rattle.dimension.specs.Sizes.{codeLength, longestOfAll, splitPlace}
 use Rattle.dimension.specs.Laws.{split-range}

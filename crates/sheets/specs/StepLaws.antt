@@ -23,7 +23,6 @@ use Rattle.next.specs.declared.Match.{Match}
 use Rattle.next.specs.Nexts.{FirstIs, MatchIs}
 use Rattle.sheets.specs.declared.Edition.{Edition}
 use Rattle.sheets.specs.declared.SheetAnswer.{SheetAnswer}
-use Rattle.sheets.specs.declared.State.{State}
 use Rattle.sheets.specs.Sheets.{sampleWidth, refusedRecord, beginsWith, behindMark, isMarked, bodyLength, recordLength, unmarkedRefusal, recordRefusal, Checks, SheetIs}
 use Rattle.sheets.specs.Steps.{markOf, IsFirst, PartsAre, stateOf, OpenIs, opens, shut}
 use Rattle.sheets.specs.Theorems.Reading.{passed}

@@ -9,8 +9,8 @@ use native.Mathlib.Decide.{decLt, decLe}
 use lib.Dec.{eqb, leb, ltb}
 use lib.ListN.{length, getD, take, drop, length-take, length-drop, length-append, List·getD-append}
 use lib.Seq.{getD-take, getD-drop, ext-getD, getD-append-add, take-append-le, drop-append-le}
-use borrow.Author.Tests.{lt-ltb, le-ltb, le-leb, lt-leb, eq-eqb, ne-eqb, leb-true, leb-false}
-use Rattle.bisection.specs.Codes.{axis, minus, negated, turned, stepped, minusOn}
+use borrow.Author.Tests.{lt-ltb, le-ltb, le-leb, lt-leb, eq-eqb, ne-eqb, leb-true}
+use Rattle.bisection.specs.Codes.{axis, minus, negated, turned, minusOn}
 use Rattle.bisection.specs.Theorems.Lists.{shifted, shifted-before, shifted-at, shifted-past, shifted-length}
 use Rattle.bisection.specs.Theorems.Axis.{Order, order, under, same, over}
 use Rattle.bisection.specs.Theorems.Onto.{Taken, onto}

@@ -4,21 +4,6 @@ use borrow.Author.Needs.{needs}
 use Rattle.fours.proofs.entries_of.Statement.{statement}
 use Rattle.fours.proofs.entries_of.Tie as tie
 
-shared-slice-read-t5 : tie.Need-shared-slice-read-t5
-shared-slice-read-t5 c = search needs
-
-add-t6 : tie.Need-add-t6
-add-t6 c = search needs
-
-shared-slice-read-t8 : tie.Need-shared-slice-read-t8
-shared-slice-read-t8 c = search needs
-
-entry-in-requires : tie.Need-entry-in-requires
-entry-in-requires c κs = search needs
-
-entry-in-requires-2 : tie.Need-entry-in-requires-2
-entry-in-requires-2 c κs = search needs
-
 returns : tie.Need-returns
 returns c =
     let args = c .before .before .before .before .before .args in
@@ -29,9 +14,9 @@ pub entries-of-spec : {M : Type 1} → statement M
 entries-of-spec =
     tie.close
     (tie.spec
-    shared-slice-read-t5
-    add-t6
-    shared-slice-read-t8
-    entry-in-requires
-    entry-in-requires-2
+    (λ c. search needs)
+    (λ c. search needs)
+    (λ c. search needs)
+    (λ c κs. search needs)
+    (λ c κs. search needs)
     returns)

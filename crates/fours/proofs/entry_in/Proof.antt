@@ -4,19 +4,15 @@ use borrow.Author.Needs.{needs}
 use Rattle.fours.proofs.entry_in.Statement.{statement}
 use Rattle.fours.proofs.entry_in.Tie as tie
 
-returns : tie.Need-returns
-returns c = entry-none (c .before .args .d) (c .before .args .n) _ (c .if1 .taken)
-
-add-result : tie.Need-add-result
-add-result c = search needs
-
-shared-slice-read-result : tie.Need-shared-slice-read-result
-shared-slice-read-result c = search needs
-
 returns-2 : tie.Need-returns-2
 returns-2 c =
     let args = c .before .before .args in
     entry-some (args .d) (args .n) _ (c .before .if1 .left)
 
 pub entry-in-spec : {M : Type 1} → statement M
-entry-in-spec = tie.close (tie.spec returns add-result shared-slice-read-result returns-2)
+entry-in-spec = tie.close
+    (tie.spec
+    (λ c. entry-none (c .before .args .d) (c .before .args .n) _ (c .if1 .taken))
+    (λ c. search needs)
+    (λ c. search needs)
+    returns-2)

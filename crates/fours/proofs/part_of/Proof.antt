@@ -10,18 +10,6 @@ use borrow.Author.Needs.{needs}
 use Rattle.fours.proofs.part_of.Statement.{statement}
 use Rattle.fours.proofs.part_of.Tie as tie
 
-is-minus-requires : tie.Need-is-minus-requires
-is-minus-requires c κs = search needs
-
-axis-of-requires : tie.Need-axis-of-requires
-axis-of-requires c κs = search needs
-
-shl-pick : tie.Need-shl-pick
-shl-pick c = search needs
-
-pick-requires : tie.Need-pick-requires
-pick-requires c κs = search needs
-
 returns : tie.Need-returns
 unfolding partOf
 returns c =
@@ -31,4 +19,10 @@ returns c =
 
 pub part-of-spec : {M : Type 1} → statement M
 part-of-spec =
-    tie.close (tie.spec is-minus-requires axis-of-requires shl-pick pick-requires returns)
+    tie.close
+    (tie.spec
+    (λ c κs. search needs)
+    (λ c κs. search needs)
+    (λ c. search needs)
+    (λ c κs. search needs)
+    returns)

@@ -5,19 +5,10 @@ use borrow.Author.Needs.{needs}
 use Rattle.next.proofs.after.Statement.{statement}
 use Rattle.next.proofs.after.Tie as tie
 
-sub-power : tie.Need-sub-power
-sub-power c = let above = after-above (c .before .pre .0) in omega arith
-
-power-requires : tie.Need-power-requires
-power-requires c κs = after-short (c .before .pre .0)
-
 mul-path : tie.Need-mul-path
 mul-path c =
     let pre = c .before .before .before .pre in
     record { fits = after-path (pre .0) _ (c .before .power .ensures) }
-
-entries-requires : tie.Need-entries-requires
-entries-requires c κs = search needs
 
 climb-requires : tie.Need-climb-requires
 climb-requires c κs =
@@ -32,9 +23,6 @@ returns c =
     let entries = c .before .before .before .entries in
     let climb = c .before .before .climb in
     after-over (pre .0) _ (power .ensures) _ (rw (entries .ensures) at (climb .ensures)) (c .if1 .taken) _
-
-axes-requires : tie.Need-axes-requires
-axes-requires c κs = search needs
 
 place-above-requires : tie.Need-place-above-requires
 place-above-requires c κs =
@@ -71,9 +59,6 @@ boxes-above-requires c κs =
     let climb = c .before .before .before .before .before .climb in
     let if1 = c .before .before .before .if1 in
     rw (axes .ensures) (after-boxes (pre .0) _ (power .ensures) _ (rw (entries .ensures) at (climb .ensures)) (if1 .left))
-
-own-of-requires : tie.Need-own-of-requires
-own-of-requires c κs = search needs
 
 filled-requires : tie.Need-filled-requires
 filled-requires c κs =
@@ -116,18 +101,18 @@ pub after-spec : {M : Type 1} → statement M
 after-spec =
     tie.close
     (tie.spec
-    sub-power
-    power-requires
+    (λ c. let above = after-above (c .before .pre .0) in omega arith)
+    (λ c κs. after-short (c .before .pre .0))
     mul-path
-    entries-requires
+    (λ c κs. search needs)
     climb-requires
     returns
-    axes-requires
+    (λ c κs. search needs)
     place-above-requires
     sub-turned-on
     turned-on-requires
     boxes-above-requires
-    own-of-requires
+    (λ c κs. search needs)
     filled-requires
     add-t12
     returns-2)

@@ -17,24 +17,9 @@ Inv-loop path depth count axes first₀ second₀ third₀ fourth₀ left₀ t�
 abbrev μ-loop : tie.MeasureT-loop
 μ-loop path depth count axes first₀ second₀ third₀ fourth₀ left₀ t₀ boxes₀ k₀ first second third fourth left t boxes k = t
 
-axes-requires : tie.Need-axes-requires Inv-loop μ-loop
-axes-requires c κs = search needs
-
-mul-k : tie.Need-mul-k Inv-loop μ-loop
-mul-k c = record { fits = split-fits _ (c .before .args .depth) _ _ (c .axes .ensures) (c .before .pre .1) (omega arith) }
-
-sub-k : tie.Need-sub-k Inv-loop μ-loop
-sub-k c = split-sub _ (c .before .args .depth) _ _ (c .axes .ensures) (c .before .pre .1)
-
-sub-k-2 : tie.Need-sub-k-2 Inv-loop μ-loop
-sub-k-2 c = split-rest _ (c .before .args .depth) _ _ (omega (arith, axes-range (c .before .args .dim) .two)) (c .axes .ensures) (c .before .pre .1)
-
 loop-holds : tie.Need-loop-holds Inv-loop μ-loop
 loop-holds c = loop-start _ (subst (λ (m : ℕ). ClimbReady m (c .before .args .from) (c .before .args .path) (c .before .args .depth)) (sym (c .axes .ensures)) (c .before .pre .0))
     (rw (c .axes .ensures) (c .before .pre .1))
-
-boxes-above-requires : tie.Need-boxes-above-requires Inv-loop μ-loop
-boxes-above-requires c κs = loop-boxes (c .before .loop .inv) (c .loop-test .taken)
 
 place-above-requires : tie.Need-place-above-requires Inv-loop μ-loop
 place-above-requires c κs =
@@ -83,12 +68,12 @@ climb-spec =
     (tie.spec
     Inv-loop
     μ-loop
-    axes-requires
-    mul-k
-    sub-k
-    sub-k-2
+    (λ c κs. search needs)
+    (λ c. record { fits = split-fits _ (c .before .args .depth) _ _ (c .axes .ensures) (c .before .pre .1) (omega arith) })
+    (λ c. split-sub _ (c .before .args .depth) _ _ (c .axes .ensures) (c .before .pre .1))
+    (λ c. split-rest _ (c .before .args .depth) _ _ (omega (arith, axes-range (c .before .args .dim) .two)) (c .axes .ensures) (c .before .pre .1))
     loop-holds
-    boxes-above-requires
+    (λ c κs. loop-boxes (c .before .loop .inv) (c .loop-test .taken))
     place-above-requires
     sub-turned-back
     turned-back-requires

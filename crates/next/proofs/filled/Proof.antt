@@ -5,21 +5,6 @@ use borrow.Author.Needs.{needs}
 use Rattle.next.proofs.filled.Statement.{statement}
 use Rattle.next.proofs.filled.Tie as tie
 
-mul-power : tie.Need-mul-power
-mul-power c = let few = fill-places (c .args .from) (c .args .own) (c .pre .0) (c .pre .1) in omega arith
-
-power-requires : tie.Need-power-requires
-power-requires c κs = fill-places (c .args .from) (c .args .own) (c .pre .0) (c .pre .1)
-
-rem-result : tie.Need-rem-result
-rem-result c = fill-some (c .before .args .from) (c .before .args .own) (c .before .pre .0) (c .before .pre .1) _ (c .power .ensures)
-
-wide-requires : tie.Need-wide-requires
-wide-requires c κs = search needs
-
-mul-result : tie.Need-mul-result
-mul-result c = search needs
-
 div-result : tie.Need-div-result
 div-result c =
     let args = c .before .before .args in
@@ -55,11 +40,11 @@ pub filled-spec : {M : Type 1} → statement M
 filled-spec =
     tie.close
     (tie.spec
-    mul-power
-    power-requires
-    rem-result
-    wide-requires
-    mul-result
+    (λ c. let few = fill-places (c .args .from) (c .args .own) (c .pre .0) (c .pre .1) in omega arith)
+    (λ c κs. fill-places (c .args .from) (c .args .own) (c .pre .0) (c .pre .1))
+    (λ c. fill-some (c .before .args .from) (c .before .args .own) (c .before .pre .0) (c .before .pre .1) _ (c .power .ensures))
+    (λ c κs. search needs)
+    (λ c. search needs)
     div-result
     mul-result-2
     add-result

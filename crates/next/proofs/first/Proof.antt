@@ -6,15 +6,6 @@ use borrow.Author.Needs.{needs}
 use Rattle.next.proofs.first.Statement.{statement}
 use Rattle.next.proofs.first.Tie as tie
 
-first-row-requires : tie.Need-first-row-requires
-first-row-requires c κs = search needs
-
-roots-requires : tie.Need-roots-requires
-roots-requires c κs = search needs
-
-place-in-requires : tie.Need-place-in-requires
-place-in-requires c κs = search needs
-
 add-row : tie.Need-add-row
 add-row c =
     let args = c .before .before .before .args in
@@ -64,9 +55,9 @@ pub first-spec : {M : Type 1} → statement M
 first-spec =
     tie.close
     (tie.spec
-    first-row-requires
-    roots-requires
-    place-in-requires
+    (λ c κs. search needs)
+    (λ c κs. search needs)
+    (λ c κs. search needs)
     add-row
     entry-requires
     entry-requires-2

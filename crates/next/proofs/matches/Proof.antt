@@ -12,21 +12,6 @@ use borrow.Author.Needs.{needs}
 use Rattle.next.proofs.matches.Statement.{statement}
 use Rattle.next.proofs.matches.Tie as tie
 
-axes-requires : tie.Need-axes-requires
-axes-requires c κs = search needs
-
-shared-slice-read-size : tie.Need-shared-slice-read-size
-shared-slice-read-size c = search needs
-
-size-requires : tie.Need-size-requires
-size-requires c κs = search needs
-
-shared-slice-read-size-2 : tie.Need-shared-slice-read-size-2
-shared-slice-read-size-2 c = search needs
-
-size-requires-2 : tie.Need-size-requires-2
-size-requires-2 c κs = search needs
-
 returns : tie.Need-returns
 returns c =
     let axes = c .before .before .before .before .before .axes in
@@ -37,16 +22,10 @@ returns-2 c =
     let size = c .before .before .before .before .before .size in
     not-matched (λ h. omega (arith, size .ensures, shaped-depth h, h .above, c .if2 .taken))
 
-greatest-depth-requires : tie.Need-greatest-depth-requires
-greatest-depth-requires c κs = search needs
-
 returns-3 : tie.Need-returns-3
 returns-3 c =
     let size = c .before .before .before .before .before .before .before .size in
     not-matched (λ h. omega (arith, size .ensures, shaped-depth h, h .deep, c .before .greatest-depth .ensures, c .if3 .taken))
-
-box-depth-requires : tie.Need-box-depth-requires
-box-depth-requires c κs = search needs
 
 add-length : tie.Need-add-length
 add-length c =
@@ -76,12 +55,6 @@ entries-of-requires c κs =
     let axes = c .before .before .before .before .before .before .before .before .before .before .before .axes in
     let range = axes-range (args .dim) in (omega (arith, axes .ensures, range .two), omega (arith, axes .ensures, range .few), omega (arith, c .if4 .left))
 
-entries-requires : tie.Need-entries-requires
-entries-requires c κs = search needs
-
-same-requires : tie.Need-same-requires
-same-requires c κs = search needs
-
 returns-5 : tie.Need-returns-5
 returns-5 c =
     let entries = c .before .before .entries in
@@ -89,12 +62,6 @@ returns-5 c =
     let axes = c .before .before .before .before .before .before .before .before .before .before .before .before .before .before .before .axes in
     not-matched (λ h. subst T (sym ((rw (entries .ensures) at (c .before .same .ensures)) .told (shaped-entries h (entries-of .result) (rw (axes .ensures) at (entries-of .ensures))))
     ∙ not-true _ (c .if5 .taken)) tt)
-
-add-same-boxes : tie.Need-add-same-boxes
-add-same-boxes c = search needs
-
-same-boxes-requires : tie.Need-same-boxes-requires
-same-boxes-requires c κs = search needs
 
 returns-6 : tie.Need-returns-6
 returns-6 c =
@@ -131,24 +98,24 @@ pub matches-spec : {M : Type 1} → statement M
 matches-spec =
     tie.close
     (tie.spec
-    axes-requires
-    shared-slice-read-size
-    size-requires
-    shared-slice-read-size-2
-    size-requires-2
+    (λ c κs. search needs)
+    (λ c. search needs)
+    (λ c κs. search needs)
+    (λ c. search needs)
+    (λ c κs. search needs)
     returns
     returns-2
-    greatest-depth-requires
+    (λ c κs. search needs)
     returns-3
-    box-depth-requires
+    (λ c κs. search needs)
     add-length
     add-length-2
     returns-4
     entries-of-requires
-    entries-requires
-    same-requires
+    (λ c κs. search needs)
+    (λ c κs. search needs)
     returns-5
-    add-same-boxes
-    same-boxes-requires
+    (λ c. search needs)
+    (λ c κs. search needs)
     returns-6
     returns-7)

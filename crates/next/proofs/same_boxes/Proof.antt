@@ -12,30 +12,12 @@ Inv-loop bytes at n boxes left₀ i₀ left i = Comparing n at bytes boxes i lef
 abbrev μ-loop : tie.MeasureT-loop
 μ-loop bytes at n boxes left₀ i₀ left i = n - i
 
-loop-holds : tie.Need-loop-holds Inv-loop μ-loop
-loop-holds c = comparing-start _ _ _ _
-
-add-if1 : tie.Need-add-if1 Inv-loop μ-loop
-add-if1 c = search needs
-
-shared-slice-read-if1 : tie.Need-shared-slice-read-if1 Inv-loop μ-loop
-shared-slice-read-if1 c = search needs
-
-lowest-requires : tie.Need-lowest-requires Inv-loop μ-loop
-lowest-requires c κs = search needs
-
 returns : tie.Need-returns Inv-loop μ-loop
 returns c =
     let loop = c .before .before .before .before .loop in
     let loop-test = c .before .before .before .loop-test in
     let pre = c .before .before .before .before .before .before .pre in
     compared-not (loop .inv) (loop-test .taken) (pre) (λ q. c .if1 .taken (q ∙ sym (c .before .lowest .ensures)))
-
-add-i : tie.Need-add-i Inv-loop μ-loop
-add-i c = search needs
-
-loop-less : tie.Need-loop-less Inv-loop μ-loop
-loop-less c = search needs
 
 loop-again : tie.Need-loop-again Inv-loop μ-loop
 loop-again c =
@@ -44,21 +26,18 @@ loop-again c =
     let pre = c .before .before .before .before .before .before .pre in
     comparing-on (loop .inv) (loop-test .taken) (pre) (c .if1 .left ∙ c .before .lowest .ensures)
 
-returns-2 : tie.Need-returns-2 Inv-loop μ-loop
-returns-2 c = compared (c .before .loop .inv) (c .loop-test .left)
-
 pub same-boxes-spec : {M : Type 1} → statement M
 same-boxes-spec =
     tie.close
     (tie.spec
     Inv-loop
     μ-loop
-    loop-holds
-    add-if1
-    shared-slice-read-if1
-    lowest-requires
+    (λ c. comparing-start _ _ _ _)
+    (λ c. search needs)
+    (λ c. search needs)
+    (λ c κs. search needs)
     returns
-    add-i
-    loop-less
+    (λ c. search needs)
+    (λ c. search needs)
     loop-again
-    returns-2)
+    (λ c. compared (c .before .loop .inv) (c .loop-test .left)))

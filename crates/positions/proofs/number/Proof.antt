@@ -14,22 +14,12 @@ Inv-loop root d n₀ i₀ n i = (i ≤ d) × (n ≡ numberIn d root i)
 abbrev μ-loop : tie.MeasureT-loop
 μ-loop root d n₀ i₀ n i = d - i
 
-loop-holds : tie.Need-loop-holds Inv-loop μ-loop
-unfolding numberIn
-loop-holds c = (omega arith, refl)
-
-sub-n : tie.Need-sub-n Inv-loop μ-loop
-sub-n c = search needs
-
 mul-n : tie.Need-mul-n Inv-loop μ-loop
 mul-n c =
     let args = c .before .before .before .args in
     let pre = c .before .before .before .pre in
     let q = number-times (c .before .loop .n) (args .d - c .before .loop .i)
     (rw (c .before .loop .inv .1) (number-few (args .d) (args .root .now) (c .before .loop .i) (pre .0) (omega arith))) (omega arith) in omega arith
-
-smaller-requires : tie.Need-smaller-requires Inv-loop μ-loop
-smaller-requires c κs = search needs
 
 add-n : tie.Need-add-n Inv-loop μ-loop
 add-n c =
@@ -38,12 +28,6 @@ add-n c =
     let loop = c .before .before .loop in
     let q = number-times (loop .n) (args .d - loop .i) (rw (loop .inv .1) (number-few (args .d) (args .root .now) (loop .i) (pre .0) (omega arith)))
     (omega arith) in omega (arith, c .smaller .ensures, smaller-few (args .root .now) (loop .i) (args .d))
-
-add-i : tie.Need-add-i Inv-loop μ-loop
-add-i c = search needs
-
-loop-less : tie.Need-loop-less Inv-loop μ-loop
-loop-less c = search needs
 
 loop-again : tie.Need-loop-again Inv-loop μ-loop
 loop-again c =
@@ -63,12 +47,12 @@ number-spec =
     (tie.spec
     Inv-loop
     μ-loop
-    loop-holds
-    sub-n
+    (λ c. unfold numberIn in (omega arith, refl))
+    (λ c. search needs)
     mul-n
-    smaller-requires
+    (λ c κs. search needs)
     add-n
-    add-i
-    loop-less
+    (λ c. search needs)
+    (λ c. search needs)
     loop-again
     returns)

@@ -7,11 +7,8 @@ use borrow.Author.Needs.{needs}
 use Rattle.positions.proofs.power.Statement.{statement}
 use Rattle.positions.proofs.power.Tie as tie
 
-shl-result : tie.Need-shl-result
-shl-result c = search needs
-
-returns : tie.Need-returns
-returns c = shl-exact {a = 1} 1 (c .args .n) 64 (omega arith) (omega arith) ∙ one-mul _
-
 pub power-spec : {M : Type 1} → statement M
-power-spec = tie.close (tie.spec shl-result returns)
+power-spec = tie.close
+    (tie.spec
+    (λ c. search needs)
+    (λ c. shl-exact {a = 1} 1 (c .args .n) 64 (omega arith) (omega arith) ∙ one-mul _))

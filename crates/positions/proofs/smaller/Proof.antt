@@ -15,29 +15,11 @@ Inv-loop root i d n₀ j₀ n j = (i < j) × (j ≤ d) × (n ≡ smallerIn root 
 abbrev μ-loop : tie.MeasureT-loop
 μ-loop root i d n₀ j₀ n j = d - j
 
-add-j : tie.Need-add-j Inv-loop μ-loop
-add-j c = search needs
-
-loop-holds : tie.Need-loop-holds Inv-loop μ-loop
-loop-holds c = (omega arith, omega arith, sym (smaller-none (c .args .root .now) (c .args .i) (c .args .i + 1) (omega arith)))
-
-shared-slice-read-if1 : tie.Need-shared-slice-read-if1 Inv-loop μ-loop
-shared-slice-read-if1 c = search needs
-
-shared-slice-read-if1-2 : tie.Need-shared-slice-read-if1-2 Inv-loop μ-loop
-shared-slice-read-if1-2 c = search needs
-
 add-n : tie.Need-add-n Inv-loop μ-loop
 add-n c =
     let args = c .before .before .before .before .before .args in
     let loop = c .before .before .before .before .loop in
     omega (arith, smaller-few (args .root .now) (args .i) (loop .j), loop .inv .2)
-
-add-j-2 : tie.Need-add-j-2 Inv-loop μ-loop
-add-j-2 c = search needs
-
-loop-less : tie.Need-loop-less Inv-loop μ-loop
-loop-less c = search needs
 
 loop-again : tie.Need-loop-again Inv-loop μ-loop
 loop-again c =
@@ -63,12 +45,12 @@ smaller-spec =
     (tie.spec
     Inv-loop
     μ-loop
-    add-j
-    loop-holds
-    shared-slice-read-if1
-    shared-slice-read-if1-2
+    (λ c. search needs)
+    (λ c. (omega arith, omega arith, sym (smaller-none (c .args .root .now) (c .args .i) (c .args .i + 1) (omega arith))))
+    (λ c. search needs)
+    (λ c. search needs)
     add-n
-    add-j-2
-    loop-less
+    (λ c. search needs)
+    (λ c. search needs)
     loop-again
     returns)
