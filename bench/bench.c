@@ -72,11 +72,12 @@ static void random_path(uint8_t *path, size_t depth)
         path[t] = (uint8_t)random_below(2);
 }
 
-static void random_sample(size_t n)
+/* Of one dimension, or of any where d is 0. */
+static void random_sample(size_t n, uint8_t d)
 {
     sample *s = &samples[n];
     uint8_t *root = sample_roots[n];
-    s->d = (uint8_t)(2 + random_below(3));
+    s->d = d ? d : (uint8_t)(2 + random_below(3));
     s->depth = (uint8_t)random_below((uint64_t)RMK_HALVINGS * s->d + 1);
     s->which = (uint8_t)random_below(2);
     s->facet = (uint8_t)random_below(s->d + 1u);
@@ -349,8 +350,9 @@ int main(int count, char **words)
     static const char *const sheet_names[] = {"sheet_check, a record, dimension 2",
                                               "sheet_check, a record, dimension 3",
                                               "sheet_check, a record, dimension 4"};
+    static const char *const cross_names[] = {"cross, dimension 2", "cross, dimension 3", "cross, dimension 4"};
     for (size_t n = 0; n < CODES; n++)
-        random_sample(n);
+        random_sample(n, 0);
     printf("| entry | ours, ns | plain C, ns | ratio |\n|---|---|---|---|\n");
     row("code_check", code_check_round, CODES);
     row("path_to_code", path_to_code_round, CODES);
@@ -360,6 +362,11 @@ int main(int count, char **words)
     row("parent", parent_round, CODES);
     if (ours.cross)
         row("cross", cross_round, CODES);
+    for (uint8_t d = 2; d <= 4 && ours.cross; d++) {
+        for (size_t n = 0; n < CODES; n++)
+            random_sample(n, d);
+        row(cross_names[d - 2], cross_round, CODES);
+    }
     for (uint8_t d = 2; d <= 4 && ours.sheet_check; d++) {
         random_sheet(d);
         row(sheet_names[d - 2], sheet_check_round, sheet_records);

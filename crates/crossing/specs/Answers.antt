@@ -14,13 +14,11 @@ use Rattle.bisection.specs.Refusals.{done, refusedStep, refusedFace, refusedSho
 use Rattle.bisection.specs.Facets.{IsCell, Shares}
 use Rattle.bisection.specs.Theorems.CodePaths.{rootOf, pathOf}
 use Rattle.bisection.specs.Theorems.CodeCells.{code-cell, cell-passes}
-use Rattle.bisection.specs.Theorems.Passing.{unstepped}
 use Rattle.bisection.specs.Theorems.Table.{Move, exchanged, negatedAt, entriesBy}
 use Rattle.bisection.specs.Theorems.Crossing.Sound.{Allowed, a-swap, a-near, a-far, a-left, a-right, a-trade}
 use Rattle.bisection.specs.Theorems.Crossing.Rearranged.{exchanged-length, negatedAt-length}
 use Rattle.bisection.specs.Theorems.Neighbour.{isBlocked, tableCode, tablePlace, blocked-is-face, blocked-alone, face-is-blocked, across-unblocked}
-use Rattle.bisection.specs.Theorems.Entries.{turned-append}
-use Rattle.steps.specs.Parents.{unstepped-append}
+use Rattle.bisection.specs.Theorems.Entries.{turned-append, unturned-append}
 use Rattle.entries.specs.Passed.{Checked, checked}
 use Rattle.crossing.specs.declared.Crossed.{Crossed}
 use Rattle.crossing.specs.Outcome.{Refuses, Walled, Beyond, Meets, wall, short, crossed, Crosses}
@@ -108,7 +106,7 @@ code-pasted code p {d} a es rest = ap (λ (l : List ℕ). paste (l ++ rest) 2 es
         (drop-at (entriesOf code) (orthantsOf code ++ rest) d (unfold partsOf in k .good .passes .signed .size ∙ sym a))
 
 -- a change of the entries goes no further
-pub negated-append : (at : ℕ) (es rest : List ℕ) → at < length es → negatedAt at (es ++ rest) ≡ negatedAt at es ++ rest
+negated-append : (at : ℕ) (es rest : List ℕ) → at < length es → negatedAt at (es ++ rest) ≡ negatedAt at es ++ rest
 unfolding negatedAt
 negated-append at es rest h = rw (List·getD-append es rest 0 at h) (set-append-left es rest at (negated (getD es at 0)) h)
 
@@ -123,7 +121,7 @@ entries-append (a-swap {i} h l) k1 kd es rest e = exchanged-append (i - 1) i es 
 entries-append {d} a-near k1 kd es rest e = negated-append (d - 1) es rest (omega arith)
 entries-append (a-far q) k1 kd es rest e = negated-append 0 es rest (omega arith)
 entries-append {d} {k} (a-left q) k1 kd es rest e = turned-append (suc k) es rest (omega arith) (omega arith)
-entries-append {d} {k} (a-right q) k1 kd es rest e = unfold unstepped in unstepped-append 1 k es rest (omega arith)
+entries-append {d} {k} (a-right q) k1 kd es rest e = unturned-append k es rest (omega arith)
 entries-append {d} {k} (a-trade q) k1 kd es rest e =
     rw (exchanged-append 0 k es rest (omega arith) (omega arith), negated-append k (exchanged 0 k es) rest (omega (arith, exchanged-length 0 k es)))
     (negated-append 0 (negatedAt k (exchanged 0 k es)) rest (omega (arith, exchanged-length 0 k es, negatedAt-length k (exchanged 0 k es))))
