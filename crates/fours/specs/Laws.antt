@@ -54,7 +54,8 @@ on-is e (suc (suc (suc (suc n)))) m h q = absurd (omega arith)
 
 -- the step to a child: the entries as they are for child 0, turned for child 1
 pub step-is : (e t : Four) (n b : ℕ) → four t ≡ turned (suc n) (four e)
-    → four (fourOf (cond (eqb b 0) (e .first) (t .first)) (cond (eqb b 0) (e .second) (t .second)) (cond (eqb b 0) (e .third) (t .third)) (cond (eqb b 0) (e .fourth) (t .fourth))) ≡ stepped b (suc n) (four e)
+    → four (fourOf (cond (eqb b 0) (e .first) (t .first)) (cond (eqb b 0) (e .second) (t .second)) (cond (eqb b 0) (e .third) (t .third)) (cond (eqb b 0) (e .fourth) (t .fourth)))
+    ≡ stepped b (suc n) (four e)
 unfolding stepped
 step-is e t n zero q = refl
 step-is e t n (suc b) q = rw (ne-eqb (suc b) 0 (λ z. absurd (omega arith))) q
@@ -75,31 +76,19 @@ pub entry-some : (d n x : ℕ) → n < d → x ≡ cond (ltb n d) x 0
 entry-some d n x h = rw (lt-ltb n d h) refl
 
 -- the entries from a place on, read and written
-start-are : (l : List ℕ) (d : ℕ) → 2 ≤ d → d ≤ 4 → d ≤ length l
-    → four (fourOf (getD l 0 0) (getD l 1 0) (cond (ltb 2 d) (getD l 2 0) 0) (cond (ltb 3 d) (getD l 3 0) 0)) ≡ paste noEntries 0 l d
-start-are (a ∷ b ∷ l) (suc (suc zero)) two few r = refl
-start-are (a ∷ b ∷ c ∷ l) (suc (suc (suc zero))) two few r = refl
-start-are (a ∷ b ∷ c ∷ e ∷ l) (suc (suc (suc (suc zero)))) two few r = refl
-start-are [] d two few r = absurd (omega arith)
-start-are (a ∷ []) d two few r = absurd (omega arith)
-start-are (a ∷ (b ∷ l)) zero two few r = absurd (omega arith)
-start-are (a ∷ (b ∷ l)) (suc zero) two few r = absurd (omega arith)
-start-are (a ∷ (b ∷ [])) (suc (suc (suc d))) two few r = absurd (omega arith)
-start-are (a ∷ (b ∷ (c ∷ []))) (suc (suc (suc (suc d)))) two few r = absurd (omega arith)
-start-are (a ∷ (b ∷ (c ∷ (e ∷ l)))) (suc (suc (suc (suc (suc d))))) two few r = absurd (omega arith)
-
-start-written : (l : List ℕ) (d : ℕ) (e : Four) → 2 ≤ d → d ≤ 4 → d ≤ length l
-    → set (set (set (set l (placeIn 3 d) (e .fourth)) (placeIn 2 d) (e .third)) 1 (e .second)) 0 (e .first) ≡ take d (four e) ++ drop d l
-start-written (a ∷ b ∷ l) (suc (suc zero)) e two few r = refl
-start-written (a ∷ b ∷ c ∷ l) (suc (suc (suc zero))) e two few r = refl
-start-written (a ∷ b ∷ c ∷ f ∷ l) (suc (suc (suc (suc zero)))) e two few r = refl
-start-written [] d e two few r = absurd (omega arith)
-start-written (a ∷ []) d e two few r = absurd (omega arith)
-start-written (a ∷ (b ∷ l)) zero e two few r = absurd (omega arith)
-start-written (a ∷ (b ∷ l)) (suc zero) e two few r = absurd (omega arith)
-start-written (a ∷ (b ∷ [])) (suc (suc (suc d))) e two few r = absurd (omega arith)
-start-written (a ∷ (b ∷ (c ∷ []))) (suc (suc (suc (suc d)))) e two few r = absurd (omega arith)
-start-written (a ∷ (b ∷ (c ∷ (f ∷ l)))) (suc (suc (suc (suc (suc d))))) e two few r = absurd (omega arith)
+start : (l : List ℕ) (d : ℕ) (e : Four) → 2 ≤ d → d ≤ 4 → d ≤ length l
+    → (four (fourOf (getD l 0 0) (getD l 1 0) (cond (ltb 2 d) (getD l 2 0) 0) (cond (ltb 3 d) (getD l 3 0) 0)) ≡ paste noEntries 0 l d)
+    × (set (set (set (set l (placeIn 3 d) (e .fourth)) (placeIn 2 d) (e .third)) 1 (e .second)) 0 (e .first) ≡ take d (four e) ++ drop d l)
+start (a ∷ b ∷ l) (suc (suc zero)) e two few r = (refl, refl)
+start (a ∷ b ∷ c ∷ l) (suc (suc (suc zero))) e two few r = (refl, refl)
+start (a ∷ b ∷ c ∷ f ∷ l) (suc (suc (suc (suc zero)))) e two few r = (refl, refl)
+start [] d e two few r = absurd (omega arith)
+start (a ∷ []) d e two few r = absurd (omega arith)
+start (a ∷ (b ∷ l)) zero e two few r = absurd (omega arith)
+start (a ∷ (b ∷ l)) (suc zero) e two few r = absurd (omega arith)
+start (a ∷ (b ∷ [])) (suc (suc (suc d))) e two few r = absurd (omega arith)
+start (a ∷ (b ∷ (c ∷ []))) (suc (suc (suc (suc d)))) e two few r = absurd (omega arith)
+start (a ∷ (b ∷ (c ∷ (f ∷ l)))) (suc (suc (suc (suc (suc d))))) e two few r = absurd (omega arith)
 
 module _ (l : List ℕ) (at d : ℕ) (two : 2 ≤ d) (few : d ≤ 4) (r : at + d ≤ length l) where
   enough : d ≤ length (drop at l)
@@ -110,7 +99,7 @@ module _ (l : List ℕ) (at d : ℕ) (two : 2 ≤ d) (few : d ≤ 4) (r : at + d
 
   pub entries-are : four (fourOf (getD l at 0) (getD l (at + 1) 0) (cond (ltb 2 d) (getD l (at + 2) 0) 0) (cond (ltb 3 d) (getD l (at + 3) 0) 0)) ≡ paste noEntries 0 (drop at l) d
   entries-are = rw (ap (λ (i : ℕ). getD l i 0) here, ← getD-drop at l 0 0, ← getD-drop at l 1 0, ← getD-drop at l 2 0, ← getD-drop at l 3 0)
-      (start-are (drop at l) d two few enough)
+      (start (drop at l) d (fourOf 0 0 0 0) two few enough .0)
 
   module _ (e : Four) where
     w : List ℕ
@@ -133,7 +122,7 @@ module _ (l : List ℕ) (at d : ℕ) (two : 2 ≤ d) (few : d ≤ 4) (r : at + d
       drop-set-add at (set l (at + placeIn 3 d) (e .fourth)) (placeIn 2 d) (e .third),
       drop-set-add at l (placeIn 3 d) (e .fourth),
     )
-        (start-written (drop at l) d e two few enough ∙ ap (λ (m : List ℕ). take d (four e) ++ m) (drop-drop d at l))
+        (start (drop at l) d e two few enough .1 ∙ ap (λ (m : List ℕ). take d (four e) ++ m) (drop-drop d at l))
 
     pub written-are : set (set (set (set l (at + placeIn 3 d) (e .fourth)) (at + placeIn 2 d) (e .third)) (at + 1) (e .second)) at (e .first) ≡ paste l at (four e) d
     unfolding w

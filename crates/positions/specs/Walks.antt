@@ -4,16 +4,15 @@ use mathlib.Core.Bool.{Bool, true, false, cond}
 use mathlib.Core.List.{List, _∷_}
 use Prim.Native.Nat.{ℕ, zero, suc, _+_, _-_, _*_, _^_, _≤_, _<_}
 use native.Mathlib.Omega.{arith}
-use lib.ListN.{length, getD, take, drop, set, replicate, length-set, length-replicate}
+use lib.ListN.{length, getD, take, drop, set, replicate, length-replicate}
 use lib.Pow.{pow-pos, pow-lt}
-use lib.Seq.{drop-cons, drop-set-lt, getD-set-same}
 use Rattle.dimension.specs.Sizes.{greatestDepth, splitPlace, boxDepth}
 use Rattle.bisection.specs.Codes.{axis, minus, high}
 use Rattle.bisection.specs.Refusals.{sameSign}
 use Rattle.entries.specs.Walks.{ownByte}
 use Rattle.fours.specs.Fours.{BackIs}
 use Rattle.steps.specs.Above.{boxesAbove, placeAbove}
-use Rattle.steps.specs.Climbs.{ClimbReady, Climbed, Rising, rise-none, rise-next, rise-done}
+use Rattle.steps.specs.Climbs.{ClimbReady, Climbed, Rising, path-on, rise-none, rise-next, rise-done}
 use Rattle.positions.specs.Positions.{startOf}
 
 -- the walk's path is in no buffer: it stands as so many zeros before
@@ -85,13 +84,10 @@ module _ {d D : ℕ} {code root : List ℕ} {t k boxes : ℕ} {root' : List ℕ}
   module _ {j : ℕ} (v : j ≡ placeAbove k d) {q own b x : ℕ} {r : List ℕ} (u : q ≡ boxesAbove boxes k d) (o : own ≡ ownByte (take q (drop (2 + d) code)))
       (s : BackIs (j - 1) own root' b r) (e : x ≡ b) where
     path-is : take (D - (t - 1)) (drop (t - 1) (set (w .path) (t - 1) b)) ≡ b ∷ take (D - t) (drop t (w .path))
-    path-is = rw (drop-cons (set (w .path) (t - 1) b) (t - 1) 0 (rw (length-set (w .path) (t - 1) b) long), getD-set-same (w .path) (t - 1) b 0 long, drop-set-lt (suc (t - 1)) (w .path) (t - 1) b (omega arith), less, back) refl
+    path-is = path-on D (t - 1) b (w .path) (omega (arith, w .rising .deep)) long ∙ ap (λ (j : ℕ). b ∷ take (D - j) (drop j (w .path))) back
       where
         long : t - 1 < length (w .path)
         long = omega (arith, w .rising .climbed .path-size, length-replicate {A = ℕ} D 0, w .rising .deep)
-
-        less : D - (t - 1) ≡ suc (D - t)
-        less = omega (arith, w .rising .deep)
 
         back : suc (t - 1) ≡ t
         back = omega arith

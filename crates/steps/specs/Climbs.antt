@@ -54,6 +54,13 @@ climb-none {d} {D} {code} {root} k = record {
     append-nil [] = refl
     append-nil (x ∷ l) = ap (λ (r : List ℕ). x ∷ r) (append-nil l)
 
+-- a step written before those that stand
+pub path-on : (D t b : ℕ) (path : List ℕ) → t < D → t < length path → take (D - t) (drop t (set path t b)) ≡ b ∷ take (D - suc t) (drop (suc t) path)
+path-on D t b path h l = rw (drop-cons (set path t b) t 0 (rw (length-set path t b) l), getD-set-same path t b 0 l, drop-set-lt (suc t) path t b (omega arith), less) refl
+  where
+    less : D - t ≡ suc (D - suc t)
+    less = omega arith
+
 -- one step up
 module _ {d D : ℕ} {code root path : List ℕ} (k : ClimbReady d D code root path) {t : ℕ} {root' path' : List ℕ} (c : Climbed d D code (suc t) root path root' path') (deep : suc t ≤ D)
     {n : ℕ} (e : n ≡ splitPlace d t - 1) where
@@ -95,19 +102,13 @@ module _ {d D : ℕ} {code root path : List ℕ} (k : ClimbReady d D code root p
         second : take (boxDepth d t) (drop (2 + d) code) ≡ (parentName d t m) .orthants
         second = unfold parentName in sym fewer-is
 
-    path-is : t < length path' → take (D - t) (drop t (set path' t b)) ≡ b ∷ take (D - suc t) (drop (suc t) path')
-    path-is l = rw (drop-cons (set path' t b) t 0 (rw (length-set path' t b) l), getD-set-same path' t b 0 l, drop-set-lt (suc t) path' t b (omega arith), less) refl
-      where
-        less : D - t ≡ suc (D - suc t)
-        less = omega arith
-
     climb-next : Climbed d D code t root path r (set path' t b)
     climb-next = record {
       root-size = told-size d0 (k .range .few) m passes root' first long e own-is s ∙ c .root-size;
       path-size = length-set path' t b ∙ c .path-size;
       passes = rw name-is (parent-passes d t d0 (omega (arith, k .range .few)) m passes);
       the-root = unfold rootTo in (ap (rootTo d t) name-is ∙ unfold m in c .the-root);
-      the-path = rw (name-is, path-is (omega (arith, c .path-size, k .depth))) (sym (append-assoc (pathTo d t (parentName d t m)) (b ∷ []) (take (D - suc t) (drop (suc t) path')))
+      the-path = rw (name-is, path-on D t b path' deep (omega (arith, c .path-size, k .depth))) (sym (append-assoc (pathTo d t (parentName d t m)) (b ∷ []) (take (D - suc t) (drop (suc t) path')))
           ∙ ap (λ (l : List ℕ). l ++ take (D - suc t) (drop (suc t) path')) (ap (λ (x : ℕ). pathTo d t (parentName d t m) ++ x ∷ []) step-is ∙ sym (path-suc d t m)) ∙ unfold m in c .the-path);
       path-rest = drop-set-lt D path' t b (omega arith) ∙ c .path-rest;
     }

@@ -57,7 +57,8 @@ module _ {d : ℕ} {root path code : List ℕ} (k : CodeReady d root path code) 
 
   name-passes : (t : ℕ) → t ≤ length path → Passes d t (nameAt d root path t)
   unfolding nameAt
-  name-passes t h = subst (λ (j : ℕ). Passes d j (nameBelow d 0 (rootName root) (take t path))) (zero-add (length (take t path)) ∙ walked) (below-passes d some small (take t path) 0 (rootName root) rooted)
+  name-passes t h = subst (λ (j : ℕ). Passes d j (nameBelow d 0 (rootName root) (take t path))) (zero-add (length (take t path)) ∙ walked)
+      (below-passes d some small (take t path) 0 (rootName root) rooted)
     where
       walked : length (take t path) ≡ t
       walked = simp length-take (omega arith)
@@ -144,7 +145,8 @@ module _ {d : ℕ} {root path code : List ℕ} {t k at : ℕ} {e : Four} {code' 
       place = q ∙ split-after d t k (some (i .ready)) (i .place);
       next = box-next d t (some (i .ready)) (i .place) (i .next) b;
       held = rw (name-next (i .ready) t h) now;
-      written = rw (name-next (i .ready) t h) (unfold step in box-on d t (some (i .ready)) (i .place) (i .next) b (take (2 + d) code) ((nameAt d root path t) .orthants) code front-size count fits now (i .written));
+      written = rw (name-next (i .ready) t h) (unfold step in
+          box-on d t (some (i .ready)) (i .place) (i .next) b (take (2 + d) code) ((nameAt d root path t) .orthants) code front-size count fits now (i .written));
     })
       where
         back : suc (k - 1) ≡ k
@@ -181,7 +183,8 @@ module _ {d : ℕ} {root path code : List ℕ} (c : CodeReady d root path code) 
 
   behind : drop (codeLength d (length path)) (d ∷ length path ∷ drop 2 code) ≡ drop (codeLength d (length path)) code
   behind = ap (drop (codeLength d (length path))) (sym (set-two code d (length path) (omega (arith, code-two c))))
-      ∙ drop-set-lt (codeLength d (length path)) (set code 0 d) 1 (length path) (unfold codeLength in omega arith) ∙ drop-set-lt (codeLength d (length path)) code 0 d (unfold codeLength in omega arith)
+      ∙ drop-set-lt (codeLength d (length path)) (set code 0 d) 1 (length path) (unfold codeLength in omega arith)
+      ∙ drop-set-lt (codeLength d (length path)) code 0 d (unfold codeLength in omega arith)
 
   front-is : take (2 + d) (d ∷ length path ∷ drop 2 code) ≡ d ∷ length path ∷ take d (drop 2 code)
   front-is = ap (λ (j : ℕ). take j (d ∷ length path ∷ drop 2 code)) two

@@ -60,59 +60,42 @@ entries-of-requires c κs =
 walk-requires : tie.Need-walk-requires
 unfolding dimensionOf depthOf
 walk-requires c κs =
-    let the-axes = c .before .before .before .before .before .axes in
-    let the-args = c .before .before .before .before .before .before .before .before .before .args in
-    let the-pre = c .before .before .before .before .before .before .before .before .before .pre in
-    let the-checked = c .before .before .before .before .before .before .checked in
-    let the-size = c .before .before .before .size in
-    let the-greatest-depth = c .before .before .greatest-depth in
-    let axes = the-axes in
-    let args = the-args in
-    let pre = the-pre in
-    let checked = the-checked in
-    let size = the-size in
-    let greatest-depth = the-greatest-depth in
-    rw (← axes .ensures) (place-ready (args .code .now) pre _ _ (axes .ensures ∙ checked .ensures) (size .ensures) (c .entries-of .ensures) _ (c .before .power .ensures ∙ ap (λ (n : ℕ). 2 ^ (n - size .result)) (greatest-depth .ensures ∙ ap greatestDepth (sym (axes .ensures)))))
+    let axes = c .before .before .before .before .before .axes in
+    let args = c .before .before .before .before .before .before .before .before .before .args in
+    let pre = c .before .before .before .before .before .before .before .before .before .pre in
+    let checked = c .before .before .before .before .before .before .checked in
+    let size = c .before .before .before .size in
+    let greatest-depth = c .before .before .greatest-depth in
+    rw (← axes .ensures) (place-ready (args .code .now) pre _ _ (axes .ensures ∙ checked .ensures) (size .ensures) (c .entries-of .ensures) _
+    (c .before .power .ensures ∙ ap (λ (n : ℕ). 2 ^ (n - size .result)) (greatest-depth .ensures ∙ ap greatestDepth (sym (axes .ensures)))))
 
 number-requires : tie.Need-number-requires
 unfolding dimensionOf depthOf
 number-requires c κs =
-    let the-args = c .before .before .before .before .before .before .before .before .before .before .before .args in
-    let the-pre = c .before .before .before .before .before .before .before .before .before .before .before .pre in
-    let the-axes = c .before .before .before .before .before .before .before .axes in
-    let the-checked = c .before .before .before .before .before .before .before .before .checked in
-    let the-size = c .before .before .before .before .before .size in
-    let the-entries-of = c .before .before .entries-of in
-    let args = the-args in
-    let pre = the-pre in
-    let axes = the-axes in
-    let checked = the-checked in
-    let size = the-size in
-    let entries-of = the-entries-of in
-    (place-entries (args .code .now) pre _ _ (axes .ensures ∙ checked .ensures) (size .ensures) .1, place-room (args .code .now) pre _ _ (axes .ensures ∙ checked .ensures) (size .ensures) (entries-of .ensures) _ _ (rw (← axes .ensures) at (c .before .walk .ensures)))
+    let args = c .before .before .before .before .before .before .before .before .before .before .before .args in
+    let pre = c .before .before .before .before .before .before .before .before .before .before .before .pre in
+    let axes = c .before .before .before .before .before .before .before .axes in
+    let checked = c .before .before .before .before .before .before .before .before .checked in
+    let size = c .before .before .before .before .before .size in
+    let entries-of = c .before .before .entries-of in (
+      place-entries (args .code .now) pre _ _ (axes .ensures ∙ checked .ensures) (size .ensures) .1,
+      place-room (args .code .now) pre _ _ (axes .ensures ∙ checked .ensures) (size .ensures) (entries-of .ensures) _ _ (rw (← axes .ensures) at (c .before .walk .ensures)),
+    )
 
 returns : tie.Need-returns
 unfolding dimensionOf depthOf
 returns c =
-    let the-args = c .before .before .before .before .before .before .before .before .before .before .before .before .args in
-    let the-pre = c .before .before .before .before .before .before .before .before .before .before .before .before .pre in
-    let the-axes = c .before .before .before .before .before .before .before .before .axes in
-    let the-checked = c .before .before .before .before .before .before .before .before .before .checked in
-    let the-size = c .before .before .before .before .before .before .size in
-    let the-entries-of = c .before .before .before .entries-of in
-    let the-walk = c .before .before .walk in
-    let the-power = c .before .before .before .before .power in
-    let the-greatest-depth = c .before .before .before .before .before .greatest-depth in
-    let args = the-args in
-    let pre = the-pre in
-    let axes = the-axes in
-    let checked = the-checked in
-    let size = the-size in
-    let entries-of = the-entries-of in
-    let walk = the-walk in
-    let power = the-power in
-    let greatest-depth = the-greatest-depth in
-    place-is (args .code .now) pre _ _ (axes .ensures ∙ checked .ensures) (size .ensures) (entries-of .ensures) _ _ (rw (← axes .ensures) at (walk .ensures)) _ _ (c .number .ensures) (power .ensures ∙ ap (λ (n : ℕ). 2 ^ (n - size .result)) (greatest-depth .ensures ∙ ap greatestDepth (sym (axes .ensures))))
+    let args = c .before .before .before .before .before .before .before .before .before .before .before .before .args in
+    let pre = c .before .before .before .before .before .before .before .before .before .before .before .before .pre in
+    let axes = c .before .before .before .before .before .before .before .before .axes in
+    let checked = c .before .before .before .before .before .before .before .before .before .checked in
+    let size = c .before .before .before .before .before .before .size in
+    let entries-of = c .before .before .before .entries-of in
+    let walk = c .before .before .walk in
+    let power = c .before .before .before .before .power in
+    let greatest-depth = c .before .before .before .before .before .greatest-depth in
+    place-is (args .code .now) pre _ _ (axes .ensures ∙ checked .ensures) (size .ensures) (entries-of .ensures) _ _ (rw (← axes .ensures) at (walk .ensures)) _ _
+    (c .number .ensures) (power .ensures ∙ ap (λ (n : ℕ). 2 ^ (n - size .result)) (greatest-depth .ensures ∙ ap greatestDepth (sym (axes .ensures))))
 
 pub position-of-spec : {M : Type 1} → statement M
 position-of-spec =

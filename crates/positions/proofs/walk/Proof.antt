@@ -9,7 +9,8 @@ use Rattle.positions.proofs.walk.Statement.{statement}
 use Rattle.positions.proofs.walk.Tie as tie
 
 abbrev Inv-loop : tie.InvT-loop
-Inv-loop code depth size axes first₀ second₀ third₀ fourth₀ k₀ boxes₀ start₀ half₀ t₀ first second third fourth k boxes start half t = Walked axes depth code (first₀ ∷ second₀ ∷ third₀ ∷ fourth₀ ∷ []) t k boxes (first ∷ second ∷ third ∷ fourth ∷ []) start half
+Inv-loop code depth size axes first₀ second₀ third₀ fourth₀ k₀ boxes₀ start₀ half₀ t₀ first second third fourth k boxes start half t =
+    Walked axes depth code (first₀ ∷ second₀ ∷ third₀ ∷ fourth₀ ∷ []) t k boxes (first ∷ second ∷ third ∷ fourth ∷ []) start half
 
 abbrev μ-loop : tie.MeasureT-loop
 μ-loop code depth size axes first₀ second₀ third₀ fourth₀ k₀ boxes₀ start₀ half₀ t₀ first second third fourth k boxes start half t = t

@@ -11,7 +11,8 @@ use Rattle.steps.proofs.walks.write_code.Statement.{statement}
 use Rattle.steps.proofs.walks.write_code.Tie as tie
 
 abbrev Inv-loop : tie.InvT-loop
-Inv-loop root path code₀ axes first₀ second₀ third₀ fourth₀ k₀ at₀ t₀ code first second third fourth k at t = Falling axes root path code₀ t k at (fourOf first second third fourth) code
+Inv-loop root path code₀ axes first₀ second₀ third₀ fourth₀ k₀ at₀ t₀ code first second third fourth k at t =
+    Falling axes root path code₀ t k at (fourOf first second third fourth) code
 
 abbrev μ-loop : tie.MeasureT-loop
 μ-loop root path code₀ axes first₀ second₀ third₀ fourth₀ k₀ at₀ t₀ code first second third fourth k at t = length path - t

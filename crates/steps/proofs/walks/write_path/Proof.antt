@@ -8,7 +8,8 @@ use Rattle.steps.proofs.walks.write_path.Statement.{statement}
 use Rattle.steps.proofs.walks.write_path.Tie as tie
 
 abbrev Inv-loop : tie.InvT-loop
-Inv-loop code depth root path₀ axes first₀ second₀ third₀ fourth₀ k₀ boxes₀ t₀ path first second third fourth k boxes t = Rising axes depth code (first₀ ∷ second₀ ∷ third₀ ∷ fourth₀ ∷ []) path₀ t k boxes (first ∷ second ∷ third ∷ fourth ∷ []) path
+Inv-loop code depth root path₀ axes first₀ second₀ third₀ fourth₀ k₀ boxes₀ t₀ path first second third fourth k boxes t =
+    Rising axes depth code (first₀ ∷ second₀ ∷ third₀ ∷ fourth₀ ∷ []) path₀ t k boxes (first ∷ second ∷ third ∷ fourth ∷ []) path
 
 abbrev μ-loop : tie.MeasureT-loop
 μ-loop code depth root path₀ axes first₀ second₀ third₀ fourth₀ k₀ boxes₀ t₀ path first second third fourth k boxes t = t
