@@ -92,16 +92,16 @@ fn walk(code: &[u8], dim: Dim, depth: usize, from: Four, size: u64) -> Origin
     let mut half = size;
     let mut t: usize = depth;
     while 0 < t {
-        t -= 1;
-        boxes = steps::boxes_above(boxes, k, axes);
-        k = steps::place_above(k, axes);
-        let own = steps::own_of(code, axes, boxes);
         let here = Four {
             first,
             second,
             third,
             fourth,
         };
+        t -= 1;
+        boxes = steps::boxes_above(boxes, k, axes);
+        k = steps::place_above(k, axes);
+        let own = steps::own_of(code, axes, boxes);
         let back = fours::unstep(here, k - 1, own);
         first = back.before.first;
         second = back.before.second;
