@@ -33,13 +33,6 @@ pub fn wide(x: u8) -> u64
     x as u64
 }
 
-// The length of the stretch that all cells of a root share.
-pub fn stretch(dim: Dim) -> u64
-    ensures { λ r. ⌜ r ≡ 2 ^ greatestDepth (axesOf dim) ⌝ }
-{
-    power(dim.greatest_depth())
-}
-
 // How many of the d entries after place i are smaller than entry i.
 fn smaller(root: &[u8], i: usize, d: usize) -> usize
     requires { ⌜ (i < d) × (d ≤ length (now root)) ⌝ }

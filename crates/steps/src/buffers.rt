@@ -1,12 +1,9 @@
-// Entries in a lent buffer: copied, turned as child 1 turns them, and turned back. `at` is where they begin.
+// The front of a code copied to a lent buffer.
 ghost use mathlib.Core.Path.{_≡_};
-ghost use Prim.Native.Nat.{suc, _+_, _≤_, _<_};
-ghost use lib.ListN.{length, getD, take, drop};
+ghost use Prim.Native.Nat.{_+_, _≤_};
+ghost use lib.ListN.{length, take, drop};
 ghost use mathlib.Core.List.{_++_};
 ghost use Rattle.dimension.specs.Sizes.{longestOfAll};
-ghost use Rattle.bisection.specs.Codes.{axis, turned};
-ghost use Rattle.bisection.specs.Theorems.Entries.{unturned};
-ghost use Rattle.steps.specs.Buffers.{atPlace};
 ghost use Rattle.steps.specs.Copying.{CopiesFour};
 use dimension::Dim;
 use entries::check;
@@ -42,34 +39,4 @@ pub fn copy_front(code: &[u8], n: usize, out: &mut [u8])
         i += 4;
     }
     copy_four(code, last, out);
-}
-
-// Turns the n + 1 entries left by one place, the one that moves to place n negated.
-pub fn turn(buf: &mut [u8], at: usize, n: usize)
-    requires { ⌜ (at + n < length (now buf)) × (1 ≤ axis (getD (now buf) at 0)) ⌝ }
-    ensures { λ r. ⌜ now (buf .exit) ≡ atPlace at (turned (suc n)) (now (buf .entry)) ⌝ }
-{
-    let mut moved = entries::negate(buf[at]);
-    let mut i: usize = n + 1;
-    while 0 < i {
-        i -= 1;
-        let e = buf[at + i];
-        buf[at + i] = moved;
-        moved = e;
-    }
-}
-
-// Turns the n + 1 entries right by one place, the one that comes to the first place negated.
-pub fn unturn(buf: &mut [u8], at: usize, n: usize)
-    requires { ⌜ (at + n < length (now buf)) × (1 ≤ axis (getD (now buf) (at + n) 0)) ⌝ }
-    ensures { λ r. ⌜ now (buf .exit) ≡ atPlace at (unturned n) (now (buf .entry)) ⌝ }
-{
-    let mut moved = entries::negate(buf[at + n]);
-    let mut i: usize = 0;
-    while i <= n {
-        let e = buf[at + i];
-        buf[at + i] = moved;
-        moved = e;
-        i += 1;
-    }
 }
