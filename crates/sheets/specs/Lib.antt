@@ -8,4 +8,6 @@ pub mod Theorems
 -- What the functions answer, and what their proofs use.
 pub mod Steps
 pub mod StepLaws
+pub mod Ahead
 pub mod Progress
+pub mod Ends

@@ -1,14 +1,14 @@
 -- The loop of the sheet check: what has been read is a front of some good sheet, and its state stands for the cell behind it.
 use mathlib.Core.Path.{_≡_, refl, sym, ap, _∙_, subst}
-use mathlib.Core.Bool.{Bool, true, false}
-use mathlib.Core.List.{List, [], _∷_, _++_, append-assoc, append-nil}
+use mathlib.Core.Bool.{Bool, true}
+use mathlib.Core.List.{List, [], _∷_, _++_, append-assoc}
 use mathlib.Core.Logic.{_≢_}
 use Prim.Native.Nat.{ℕ, suc, _+_, _-_, _^_, _≤_, _<_}
 use native.Mathlib.Omega.{arith}
 use lib.Dec.{T}
-use lib.ListN.{length, getD, take, drop, length-append, length-drop, drop-of-length-le}
-use lib.Seq.{drop-cons, take-all, take-at, take-add}
-use Rattle.dimension.specs.Sizes.{isDimension, greatestDepth, rootCount}
+use lib.ListN.{length, getD, take, drop, length-append, length-drop}
+use lib.Seq.{take-at, take-add}
+use Rattle.dimension.specs.Sizes.{isDimension, greatestDepth}
 use Rattle.dimension.specs.Laws.{dimension}
 use Rattle.bisection.specs.Roots.{roots}
 use Rattle.bisection.specs.Codes.{codeOf, IsCodeOf}
@@ -16,122 +16,38 @@ use Rattle.bisection.specs.Refusals.{done, codeRefusal}
 use Rattle.bisection.specs.Theorems.CodePaths.{one-path, code-passes}
 use Rattle.codes.specs.Fronts.{frontDimension, frontCode}
 use Rattle.codes.specs.Fronts.Laws.{front-code-dimension, front-root}
-use Rattle.positions.specs.RootNumbers.{roots-count, roots-some, roots-few}
+use Rattle.positions.specs.RootNumbers.{roots-count, roots-few}
 use Rattle.next.specs.declared.Next.{Next}
 use Rattle.next.specs.declared.Match.{Match}
 use Rattle.next.specs.declared.Onward.{Onward}
 use Rattle.next.specs.Paths.{steps, zeros}
-use Rattle.next.specs.Nexts.{Stands, First, Matched, Gone, on, over, AfterIs, FirstIs}
+use Rattle.next.specs.Nexts.{Stands, First, Matched, Gone, on, over, AfterIs}
 use Rattle.next.specs.Matching.{matched-ready, matched-boxes}
 use Rattle.sheets.specs.declared.State.{State}
-use Rattle.sheets.specs.declared.SheetAnswer.{SheetAnswer}
 use Rattle.sheets.specs.Forests.{TreeCell, treeCell, Leaves}
 use Rattle.sheets.specs.Sheets.{refusedLeaf, GoodSheet, Begins, behindMark, bodyLength, recordLength, recordRefusal, Read, start, next, told, Checks, good, record-refused}
-use Rattle.sheets.specs.Sheets.{not-next, ended-early}
+use Rattle.sheets.specs.Sheets.{not-next}
 use Rattle.sheets.specs.Steps.{stateOf, OpenIs, opens, shut, Known, bodyOf, FitsIs, no-dimension, unmarked, no-root, other, cut-short, fitting, MoveReady, MoveIs}
 use Rattle.sheets.specs.Steps as steps-of
 use Rattle.sheets.specs.StepLaws.{parts-marked, parts-passed, record-marked, part-all}
-use Rattle.sheets.specs.Theorems.Frontier.{advance, advance-on, advance-over, Follows, end, leaf, begins-follows, follows-begins, good-follows, follows-good, follows-one}
-use Rattle.sheets.specs.Theorems.Frontier.{follows-split, follows-join}
+use Rattle.sheets.specs.Theorems.Frontier.{Follows, leaf, begins-follows, follows-begins}
 use Rattle.sheets.specs.Theorems.Frontier as frontier
 use Rattle.sheets.specs.Theorems.Reading.{passed, unmarked-by-code}
-use Rattle.sheets.specs.Theorems.Listing.{GoodCell, recordOf, IsRecord, record-read, Listed, listed-none, listed-more, listed-join, listed-empty, Cut, cut}
-use Rattle.sheets.specs.Theorems.Listing.{CellsIn, cells-none, cells-more, cells-join, cells-front, cells-within, records-listed, listed-records, write, records-join, leaves-cells}
+use Rattle.sheets.specs.Theorems.Listing.{recordOf, IsRecord, record-read, Listed, listed-none, listed-more, listed-join, Cut, cut}
+use Rattle.sheets.specs.Theorems.Listing.{CellsIn, cells-more, cells-front, cells-within, records-listed, listed-records, write, records-join, leaves-cells}
 use Rattle.sheets.specs.Theorems.Listing.{same-dimension}
 use Rattle.sheets.specs.Theorems.Determined.{record-inside}
-
--- in dimension d, after these cells: the number of the frontier's root, and the cell of its path
-pub record Ahead (d : ℕ) (cells : List TreeCell) (root : ℕ) (cell : Next) : Type 0 where
-  pub cells-in : CellsIn d cells
-  pub path : List Bool
-  pub follows : Follows (frontier.state (roots d) []) cells (frontier.state (drop root (roots d)) path)
-  pub root-in : root ≤ length (roots d)
-  pub stands : root < length (roots d) → Stands d cell (getD (roots d) root []) path
-
-ahead-first : (d : ℕ) (n : Next) → FirstIs d 0 n → Ahead d [] 0 n
-ahead-first d n f = record { cells-in = cells-none; path = []; follows = end; root-in = omega arith; stands = f .first }
-
-module _ {d : ℕ} {cells : List TreeCell} {root : ℕ} {cell : Next} (w : Ahead d cells root cell) where
-  abbrev here : List ℕ
-  here = getD (roots d) root []
-
-  -- the leaf that is the cell or the first one inside it, and the state of the frontier behind it
-  module _ (lt : root < length (roots d)) (c : TreeCell) (g : GoodCell c) (ax : length (c .root) ≡ d) (n : ℕ) (is : c ≡ treeCell here (steps (zeros n (w .path)))) where
-    rest : List (List ℕ)
-    rest = drop (suc root) (roots d)
-
-    roots-here : drop root (roots d) ≡ here ∷ rest
-    unfolding rest
-    roots-here = drop-cons (roots d) root [] lt
-
-    joined : Follows (frontier.state (roots d) []) (cells ++ c ∷ []) (advance here rest (zeros n (w .path)))
-    joined = follows-join (subst (λ (rs : List (List ℕ)). Follows (frontier.state (roots d) []) cells (frontier.state rs (w .path))) roots-here (w .follows))
-        (subst (λ (x : TreeCell). Follows (frontier.state (here ∷ rest) (w .path)) (x ∷ []) (advance here rest (zeros n (w .path)))) (sym is) (leaf n end))
-
-    more-cells : CellsIn d (cells ++ c ∷ [])
-    more-cells = cells-join (w .cells-in) (cells-more g ax cells-none)
-
-    pub ahead-on : {x : Onward} → x .more ≡ true → Gone d here (zeros n (w .path)) x → Ahead d (cells ++ c ∷ []) root (x .next)
-    ahead-on m (over e f) = absurd (subst T (sym m ∙ f) tt)
-    ahead-on m (on p e f st) = record {
-      cells-in = more-cells;
-      path = true ∷ p;
-      follows = subst (Follows (frontier.state (roots d) []) (cells ++ c ∷ [])) (advance-on here rest (zeros n (w .path)) p e
-          ∙ ap (λ (rs : List (List ℕ)). frontier.state rs (true ∷ p)) (sym roots-here)) joined;
-      root-in = w .root-in;
-      stands = λ l. st;
-    }
-
-    pub ahead-over : {x : Onward} {y : Next} → x .more ≡ false → Gone d here (zeros n (w .path)) x → FirstIs d (root + 1) y → Ahead d (cells ++ c ∷ []) (root + 1) y
-    unfolding rest
-    ahead-over m (on p e f st) q = absurd (subst T (sym f ∙ m) tt)
-    ahead-over m (over e f) q = record {
-      cells-in = more-cells;
-      path = [];
-      follows = subst (Follows (frontier.state (roots d) []) (cells ++ c ∷ [])) (advance-over here rest (zeros n (w .path)) e ∙ ap (λ (k : ℕ). frontier.state (drop k (roots d)) []) plus) joined;
-      root-in = omega arith;
-      stands = q .first;
-    }
-      where
-        plus : suc root ≡ root + 1
-        plus = omega arith
-
-  -- a leaf that follows is one
-  pub record Taken (c : TreeCell) : Type 0 where
-    pub root-left : root < length (roots d)
-    pub n : ℕ
-    pub root-is : c .root ≡ here
-    pub path-is : c .path ≡ steps (zeros n (w .path))
-
-  taken-by : {s u : frontier.State} {ls : List TreeCell} (c : TreeCell) → s ≡ frontier.state (drop root (roots d)) (w .path) → ls ≡ c ∷ [] → Follows s ls u → Taken c
-  taken-by c e q end = absurd (let z : _≡_ {A = ℕ} 0 1 = cc in omega arith)
-  taken-by c e q (leaf {r = r} {rs = rs} {p = p} n g) =
-      let a : treeCell r (steps (zeros n p)) ≡ c = cc in
-      let all : r ∷ rs ≡ drop root (roots d) = ap (λ (s : frontier.State). s .roots) e in
-      let lt : root < length (roots d) = omega (arith, length-drop root (roots d), ap length all) in
-      let first : r ∷ rs ≡ here ∷ drop (suc root) (roots d) = all ∙ drop-cons (roots d) root [] lt in
-      record {
-        root-left = lt;
-        n = n;
-        root-is = sym (ap (λ (y : TreeCell). y .root) a) ∙ cc first;
-        path-is = sym (ap (λ (y : TreeCell). y .path) a)
-            ∙ ap (λ (s : frontier.State). steps (zeros n (s .path))) e;
-      }
-
-  taken : (c : TreeCell) {u : frontier.State} → Follows (frontier.state (roots d) []) (cells ++ c ∷ []) u → Taken c
-  taken c {u} f =
-      let k = follows-split cells (c ∷ []) f in
-      taken-by c refl refl (subst (λ (x : frontier.State). Follows x (c ∷ []) u) (follows-one (k .front) (w .follows)) (k .back))
+use Rattle.sheets.specs.Ahead.{Ahead, ahead-first, ahead-on, ahead-over, Taken, taken}
 
 last-dimension : {d : ℕ} (cs : List TreeCell) (c : TreeCell) → CellsIn d (cs ++ c ∷ []) → length (c .root) ≡ d
 last-dimension [] c (cells-more g e l) = e
 last-dimension (x ∷ cs) c (cells-more g e l) = last-dimension cs c l
 
-some-of : (cs : List TreeCell) → cs ≢ [] → 0 < length cs
+pub some-of : (cs : List TreeCell) → cs ≢ [] → 0 < length cs
 some-of [] n = absurd (n refl)
 some-of (c ∷ cs) n = omega arith
 
-listed-good : {mark : List ℕ} {width : ℕ} {sheet : List ℕ} {n : ℕ} (g : GoodSheet mark width sheet n) → Listed mark width (g .cells) sheet
+pub listed-good : {mark : List ℕ} {width : ℕ} {sheet : List ℕ} {n : ℕ} (g : GoodSheet mark width sheet n) → Listed mark width (g .cells) sheet
 listed-good g = records-listed (leaves-cells (g .dimension) (g .is-dimension) (g .leaves)) (g .records)
 
 -- what has been read
@@ -161,7 +77,7 @@ going-start mark width sheet (opens {n = n} {d = d} k q f e) = subst (Going mark
     (record { cells = []; behind = behind-none; ready = known k (ahead-first d n f) (λ i c o v. q ∙ sym o ∙ last-dimension [] c v) })
 going-start mark width sheet (shut h e) = subst (Going mark width sheet) (sym e) (record { cells = []; behind = behind-none; ready = never refl refl (h width) })
 
-some-dimension : (n : ℕ) → isDimension n ≡ true → n ≢ 0
+pub some-dimension : (n : ℕ) → isDimension n ≡ true → n ≢ 0
 some-dimension n e q = omega (arith, dimension n e .two)
 
 pub go-known : {mark : List ℕ} {width : ℕ} {sheet : List ℕ} {s : State} → Going mark width sheet s → Known s
@@ -383,96 +299,24 @@ module _ {mark : List ℕ} {width : ℕ} {sheet : List ℕ} {s : State} (o : Goi
       by (steps-of.on a m e) = to (ahead-on (f .ahead) (f .root-left) _ (it o (f .ok) .good) ax (f .match .first .n) the-cell m (gone a)) e
       by (steps-of.over a m q e) = to (ahead-over (f .ahead) (f .root-left) _ (it o (f .ok) .good) ax (f .match .first .n) the-cell m (gone a) q) e
 
-module _ {mark : List ℕ} {width : ℕ} {sheet : List ℕ} {s : State} (g : Going mark width sheet s) where
-  -- the loop's body: the record's bytes are those from the offset on
-  module _ (lt : s .offset < length sheet) where
-    abbrev part : List ℕ
-    part = take (length sheet - s .offset) (drop (s .offset) sheet)
+-- the loop's body: the record's bytes are those from the offset on
+module _ {mark : List ℕ} {width : ℕ} {sheet : List ℕ} {s : State} (g : Going mark width sheet s) (lt : s .offset < length sheet) where
+  abbrev part : List ℕ
+  part = take (length sheet - s .offset) (drop (s .offset) sheet)
 
-    pub go-own : (x : ℕ) → x ≡ recordRefusal mark width part → x ≢ done → Checks mark width sheet (told x (s .offset) 0)
-    go-own x e h = let q = e ∙ ap (recordRefusal mark width) (part-all sheet (s .offset)) in record-refused (g .behind .reading) lt (λ z. h (q ∙ z)) (ap (λ (i : ℕ). told i (s .offset) 0) q)
+  pub go-own : (x : ℕ) → x ≡ recordRefusal mark width part → x ≢ done → Checks mark width sheet (told x (s .offset) 0)
+  go-own x e h = let q = e ∙ ap (recordRefusal mark width) (part-all sheet (s .offset)) in record-refused (g .behind .reading) lt (λ z. h (q ∙ z)) (ap (λ (i : ℕ). told i (s .offset) 0) q)
 
-    module _ {m : Match} (fit : FitsIs mark width s part m) where
-      f : FitsIs mark width s (drop (s .offset) sheet) m
-      f = subst (λ (l : List ℕ). FitsIs mark width s l m) (part-all sheet (s .offset)) fit
+  module _ {m : Match} (fit : FitsIs mark width s part m) where
+    f : FitsIs mark width s (drop (s .offset) sheet) m
+    f = subst (λ (l : List ℕ). FitsIs mark width s l m) (part-all sheet (s .offset)) fit
 
-      pub go-leaf : m .length ≡ 0 → (x : ℕ) → x ≡ recordRefusal mark width part → x ≡ done → Checks mark width sheet (told refusedLeaf (s .offset) 0)
-      go-leaf z x e q = let ok = ap (recordRefusal mark width) (sym (part-all sheet (s .offset))) ∙ sym e ∙ q in not-next (g .behind .reading) lt ok (not-begun g ok f z) refl
+    pub go-leaf : m .length ≡ 0 → (x : ℕ) → x ≡ recordRefusal mark width part → x ≡ done → Checks mark width sheet (told refusedLeaf (s .offset) 0)
+    go-leaf z x e q = let ok = ap (recordRefusal mark width) (sym (part-all sheet (s .offset))) ∙ sym e ∙ q in not-next (g .behind .reading) lt ok (not-begun g ok f z) refl
 
-      module _ (two : length mark ≡ 2) (h : m .length ≢ 0) where
-        pub go-ready : length sheet < 2 ^ 64 → MoveReady width s m
-        go-ready l = fitted-ready g two (fitted g f h) l
+    module _ (two : length mark ≡ 2) (h : m .length ≢ 0) where
+      pub go-ready : length sheet < 2 ^ 64 → MoveReady width s m
+      go-ready l = fitted-ready g two (fitted g f h) l
 
-        pub go-on : {t : State} → MoveIs width s m t → Moved mark width sheet s t
-        go-on v = fitted-on g two (fitted g f h) v
-
-  -- the ways out behind the loop
-  module _ (le : length sheet ≤ s .offset) where
-    at-end : s .offset ≡ length sheet
-    at-end = omega (arith, g .behind .inside)
-
-    all-listed : Listed mark width (g .cells) sheet
-    all-listed = subst (Listed mark width (g .cells)) (take-all (s .offset) sheet le) (g .behind .listed)
-
-    -- a good sheet has these cells and no more
-    the-cells : {m : ℕ} (h : GoodSheet mark width sheet m) → h .cells ≡ g .cells
-    the-cells h =
-        let k = cut mark width [] all-listed (listed-good h) (sym (append-nil sheet)) in
-        k .is ∙ ap (λ (l : List TreeCell). g .cells ++ l) (listed-empty mark width (k .listed) refl) ∙ append-nil (g .cells)
-
-    over-in : {m : ℕ} (h : GoodSheet mark width sheet m) → (x : frontier.State) × Follows (frontier.state (roots (h .dimension)) []) (g .cells) x × (x .roots ≡ [])
-    over-in h = good-follows (subst (Leaves (roots (h .dimension)) (greatestDepth (h .dimension))) (the-cells h) (h .leaves))
-
-    -- and it has some
-    some-cells : {m : ℕ} → GoodSheet mark width sheet m → g .cells ≢ []
-    some-cells h a =
-        let x = over-in h in
-        let no-roots : roots (h .dimension) ≡ [] = ap (λ (x : frontier.State). x .roots) (follows-one end
-        (subst (λ (l : List TreeCell). Follows (frontier.state (roots (h .dimension)) []) l (x .0)) a (x .1))) ∙ x .2 in
-        omega (arith, roots-some (h .dimension), ap length no-roots)
-
-    pub go-fresh : s .dimension ≡ 0 → Checks mark width sheet (told refusedLeaf (s .offset) 0)
-    go-fresh z = ended-early (g .behind .reading) at-end (λ m h. none (g .ready) h) refl
-      where
-        none : {m : ℕ} → Ready mark width sheet (g .cells) s → GoodSheet mark width sheet m → ⊥
-        none (never a b x) h = some-cells h a
-        none (known a w q) h = some-dimension (s .dimension) a z
-
-    pub go-early : s .dimension ≢ 0 → s .root ≢ rootCount (s .dimension) → Checks mark width sheet (told refusedLeaf (s .offset) 0)
-    go-early z q = ended-early (g .behind .reading) at-end (λ m h. none (g .ready) h) refl
-      where
-        none : {m : ℕ} → Ready mark width sheet (g .cells) s → GoodSheet mark width sheet m → ⊥
-        none (never a b y) h = z b
-        none (known a w y) h =
-            let x = over-in h in
-            let e : h .dimension ≡ s .dimension = same-dimension (some-of (g .cells) (some-cells h))
-            (subst (CellsIn (h .dimension)) (the-cells h) (leaves-cells (h .dimension) (h .is-dimension) (h .leaves))) (w .cells-in) in
-            let f : Follows (frontier.state (roots (s .dimension)) []) (g .cells) (x .0) = subst (λ (d : ℕ). Follows (frontier.state (roots d) []) (g .cells) (x .0)) e (x .1) in
-            let none-left : drop (s .root) (roots (s .dimension)) ≡ [] = ap (λ (x : frontier.State). x .roots) (follows-one (w .follows) f) ∙ x .2 in
-            q (omega (arith, w .root-in, length-drop (s .root) (roots (s .dimension)), ap length none-left, roots-count (s .dimension)))
-
-    pub go-good : s .dimension ≢ 0 → s .root ≡ rootCount (s .dimension) → Checks mark width sheet (told done 0 (s .records))
-    go-good z q = by (g .ready)
-      where
-        by : Ready mark width sheet (g .cells) s → Checks mark width sheet (told done 0 (s .records))
-        by (never a b y) = absurd (z b)
-        by (known a w y) =
-            let past : length (roots (s .dimension)) ≤ s .root = omega (arith, roots-count (s .dimension)) in
-            let none-left : drop (s .root) (roots (s .dimension)) ≡ [] = drop-of-length-le (roots (s .dimension)) past in
-            good (record {
-              dimension = s .dimension;
-              is-dimension = a;
-              cells = g .cells;
-              records = listed-records (w .cells-in) all-listed;
-              count = g .behind .count;
-              leaves = follows-good (subst (λ (rs : List (List ℕ)). Follows (frontier.state (roots (s .dimension)) []) (g .cells) (frontier.state rs (w .path))) none-left (w .follows))
-                  (cells-within (w .cells-in));
-            }) refl
-
--- an answer by its fields
-pub answer-told : {mark : List ℕ} {width : ℕ} {sheet : List ℕ} (a : SheetAnswer) (x y : ℕ) → (a .refusal ≡ x) × (a .offset ≡ y) × (a .records ≡ 0) → Checks mark width sheet (told x y 0)
-    → Checks mark width sheet a
-answer-told {mark} {width} {sheet} a x y e r = subst (Checks mark width sheet) (sym same) r
-  where
-    same : a ≡ told x y 0
-    same = λ i. record { refusal = e .0 i; offset = e .1 i; records = e .2 i }
+      pub go-on : {t : State} → MoveIs width s m t → Moved mark width sheet s t
+      go-on v = fitted-on g two (fitted g f h) v

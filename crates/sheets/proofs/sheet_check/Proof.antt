@@ -7,7 +7,8 @@ use lib.ListN.{length}
 use Rattle.dimension.specs.Sizes.{rootCount}
 use Rattle.sheets.specs.Steps.{markOf}
 use Rattle.sheets.specs.StepLaws.{first-checks}
-use Rattle.sheets.specs.Progress.{Going, going-start, go-own, go-known, go-leaf, go-ready, go-on, go-fresh, go-early, go-good, answer-told}
+use Rattle.sheets.specs.Progress.{Going, going-start, go-own, go-known, go-leaf, go-ready, go-on}
+use Rattle.sheets.specs.Ends.{go-fresh, go-early, go-good, answer-told}
 use borrow.Author.Needs.{needs}
 use Rattle.sheets.proofs.sheet_check.Statement.{statement}
 use Rattle.sheets.proofs.sheet_check.Tie as tie
