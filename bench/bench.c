@@ -16,6 +16,8 @@
 #define CODES 8192
 #define ROUNDS 600
 #define SHEET_BYTES 38000000 /* room for 1,000,000 records of at most 38 bytes */
+#define POINTS 16             /* that a round of queries asks for */
+#define QUERY_LEAVES 10000
 
 /* One program's entries. */
 typedef struct {
@@ -27,11 +29,14 @@ typedef struct {
     rmk_written (*parent)(const uint8_t *, size_t, uint8_t *, size_t);
     rmk_crossed (*cross)(const uint8_t *, size_t, uint8_t, uint8_t *, size_t);
     rmk_sheet_answer (*sheet_check)(const uint8_t *, size_t);
+    rmk_leaf_answer (*leaf_at)(const uint8_t *, size_t, const uint8_t *, size_t, uint8_t *, size_t);
+    rmk_value_answer (*value_at)(const uint8_t *, size_t, const uint8_t *, size_t);
 } entries;
 
 static const entries plain = {plain_code_check, plain_path_to_code, plain_code_to_path,
                               plain_vertices,   plain_child,        plain_parent,
-                              plain_cross,      plain_sheet_check};
+                              plain_cross,      plain_sheet_check,  plain_leaf_at,
+                              plain_value_at};
 
 /* Plain C that keeps the next cell as a code: the sheet check alone. */
 static const entries by_next = {.sheet_check = plain_sheet_by_next};
@@ -43,8 +48,15 @@ static const entries by_next = {.sheet_check = plain_sheet_by_next};
 #ifdef NO_SHEETS
 #define rmk_sheet_check NULL
 #endif
+#ifdef NO_LEAF_AT
+#define rmk_leaf_at NULL
+#endif
+#ifdef NO_VALUE_AT
+#define rmk_value_at NULL
+#endif
 static const entries ours = {rmk_code_check, rmk_path_to_code, rmk_code_to_path, rmk_vertices,
-                             rmk_child,      rmk_parent,       rmk_cross,        rmk_sheet_check};
+                             rmk_child,      rmk_parent,       rmk_cross,        rmk_sheet_check,
+                             rmk_leaf_at,    rmk_value_at};
 
 /* A random cell. */
 typedef struct {
@@ -56,6 +68,7 @@ static sample samples[CODES];
 static uint8_t sample_roots[CODES][RMK_LONGEST_ROOT], sample_paths[CODES][RMK_LONGEST_PATH];
 static uint8_t sheet[SHEET_BYTES];
 static size_t sheet_length, sheet_records;
+static uint8_t points[POINTS][2 * RMK_LONGEST_ROOT];
 
 static uint64_t random_below(uint64_t n)
 {
@@ -91,14 +104,15 @@ static void random_sample(size_t n, uint8_t d)
     s->length = (uint8_t)written.length;
 }
 
-/* One record, its samples zero. */
+/* One record. Its samples differ from those beside it. */
 static void add_leaf(const uint8_t *code, size_t length)
 {
     size_t samples_length = 2 * (code[0] + 1u);
     sheet[sheet_length] = 0x43;
     sheet[sheet_length + 1] = 0x4C;
     memcpy(sheet + sheet_length + 2, code, length);
-    memset(sheet + sheet_length + 2 + length, 0, samples_length);
+    for (size_t i = 0; i < samples_length; i++)
+        sheet[sheet_length + 2 + length + i] = (uint8_t)(7 * sheet_records + 31 * i);
     sheet_length += 2 + length + samples_length;
     sheet_records++;
 }
@@ -170,6 +184,17 @@ static void sized_sheet(uint8_t d, size_t leaves)
     sheet_length = sheet_records = 0;
     for (unsigned digits = 0; next_root(root, &digits); left--)
         add_leaves(root, 2u + d, (leaves - sheet_records) / left);
+}
+
+/* Anywhere in the cube. */
+static void random_points(uint8_t d)
+{
+    for (size_t n = 0; n < POINTS; n++)
+        for (size_t a = 0; a < d; a++) {
+            uint64_t x = random_below(RMK_CUBE_SIDE + 1);
+            points[n][2 * a] = (uint8_t)(x & 255);
+            points[n][2 * a + 1] = (uint8_t)(x >> 8);
+        }
 }
 
 /* A round calls one entry on every sample and gives a sum of what it answered. */
@@ -255,6 +280,34 @@ static uint64_t sheet_check_round(const entries *e)
     return e->sheet_check(sheet, sheet_length).records;
 }
 
+static uint64_t leaf_at_round(const entries *e)
+{
+    uint8_t weights[RMK_LONGEST_WEIGHTS] = {0};
+    uint64_t sum = 0;
+    for (size_t n = 0; n < POINTS; n++) {
+        sum += e->leaf_at(sheet, sheet_length, points[n], 2u * sheet[2], weights, sizeof weights).number;
+        sum += weights[0] + weights[1] + weights[2];
+    }
+    return sum;
+}
+
+static uint64_t value_at_round(const entries *e)
+{
+    uint64_t sum = 0;
+    for (size_t n = 0; n < POINTS; n++) /* times the greatest side: whole */
+        sum += (uint64_t)(e->value_at(sheet, sheet_length, points[n], 2u * sheet[2]).value * RMK_CUBE_SIDE);
+    return sum;
+}
+
+/* The check alone, as often as a round of queries has it. */
+static uint64_t checks_round(const entries *e)
+{
+    uint64_t sum = 0;
+    for (size_t n = 0; n < POINTS; n++)
+        sum += sheet_check_round(e);
+    return sum;
+}
+
 /* Nanoseconds that a round took; its sum must be the one expected. */
 static double time_of(round_of *round, const entries *e, uint64_t expected)
 {
@@ -284,27 +337,33 @@ static double median(double *values, size_t count)
 /* The medians of some rounds. That of the ratio is the median of the rounds' own ratios: the two halves of a
  * round meet the same machine, busy or not. */
 typedef struct {
-    double our_time, plain_time, ratio;
+    double our_time, other_time, ratio;
 } medians;
+
+/* Our round beside another of one program's entries. */
+static medians measure_both(round_of *our_round, round_of *other_round, const entries *beside, size_t rounds)
+{
+    static double our_times[ROUNDS], other_times[ROUNDS], ratios[ROUNDS];
+    uint64_t our_sum = our_round(&plain), other_sum = other_round(&plain);
+    for (size_t n = 0; n < rounds; n++) {
+        our_times[n] = time_of(our_round, &ours, our_sum);
+        other_times[n] = time_of(other_round, beside, other_sum);
+        ratios[n] = our_times[n] / other_times[n];
+    }
+    medians m = {median(our_times, rounds), median(other_times, rounds), median(ratios, rounds)};
+    return m;
+}
 
 static medians measure(round_of *round, const entries *beside, size_t rounds)
 {
-    static double our_times[ROUNDS], plain_times[ROUNDS], ratios[ROUNDS];
-    uint64_t sum = round(&plain);
-    for (size_t n = 0; n < rounds; n++) {
-        our_times[n] = time_of(round, &ours, sum);
-        plain_times[n] = time_of(round, beside, sum);
-        ratios[n] = our_times[n] / plain_times[n];
-    }
-    medians m = {median(our_times, rounds), median(plain_times, rounds), median(ratios, rounds)};
-    return m;
+    return measure_both(round, round, beside, rounds);
 }
 
 /* One row of the first table, for each of `calls` calls or records. */
 static void row(const char *name, round_of *round, size_t calls)
 {
     medians m = measure(round, &plain, ROUNDS);
-    printf("| %s | %.1f | %.1f | %.2f |\n", name, m.our_time / (double)calls, m.plain_time / (double)calls, m.ratio);
+    printf("| %s | %.1f | %.1f | %.2f |\n", name, m.our_time / (double)calls, m.other_time / (double)calls, m.ratio);
 }
 
 /* One row of the second: a good sheet, in millions of bytes a second, and our speed as a part of plain C's. And one of the third:
@@ -315,7 +374,7 @@ static void speed_row(uint8_t d, size_t leaves)
     medians m = measure(sheet_check_round, &plain, ROUNDS / 10);
     double bytes = (double)sheet_length * 1e3;
     printf("| %u | %zu | %zu | %.0f | %.0f | %.2f |\n", d, sheet_records, sheet_length, bytes / m.our_time,
-           bytes / m.plain_time, 1 / m.ratio);
+           bytes / m.other_time, 1 / m.ratio);
 }
 
 static void record_row(uint8_t d, size_t leaves)
@@ -325,7 +384,48 @@ static void record_row(uint8_t d, size_t leaves)
     medians m = measure(sheet_check_round, &plain, rounds), n = measure(sheet_check_round, &by_next, rounds);
     double records = (double)sheet_records;
     printf("| %u | %zu | %.1f | %.1f | %.2f | %.1f | %.2f |\n", d, sheet_records, n.our_time / records,
-           m.plain_time / records, m.ratio, n.plain_time / records, n.ratio);
+           m.other_time / records, m.ratio, n.other_time / records, n.ratio);
+}
+
+static void sheet_tables(void)
+{
+    if (!ours.sheet_check)
+        return;
+    printf("\n| dimension | leaves | bytes | ours, MB/s | plain C, MB/s | speed |\n|---|---|---|---|---|---|\n");
+    for (uint8_t d = 2; d <= 4; d++)
+        for (size_t leaves = 10000; leaves <= 100000; leaves *= 10)
+            speed_row(d, leaves);
+    printf("\n| dimension | leaves | ours, ns a record | plain C, ns | ratio | C by the next cell, ns | ratio |\n"
+           "|---|---|---|---|---|---|---|\n");
+    for (uint8_t d = 2; d <= 4; d++)
+        for (size_t leaves = 10000; leaves <= 1000000; leaves *= 10)
+            record_row(d, leaves);
+}
+
+/* One row of the fourth: a query beside plain C and beside our sheet check alone, for each call. */
+static void query_row(const char *name, round_of *round, uint8_t d)
+{
+    sized_sheet(d, QUERY_LEAVES);
+    random_points(d);
+    medians m = measure(round, &plain, ROUNDS / 10);
+    medians n = measure_both(round, checks_round, &ours, ROUNDS / 10);
+    double calls = POINTS * 1e3;
+    printf("| %s, dimension %u | %zu | %.1f | %.1f | %.2f | %.1f | %.2f |\n", name, d, sheet_records, m.our_time / calls,
+           m.other_time / calls, m.ratio, n.other_time / calls, n.ratio);
+}
+
+static void query_table(void)
+{
+    if (!ours.leaf_at && !ours.value_at)
+        return;
+    printf("\n| query | leaves | ours, us | plain C, us | ratio | our sheet check, us | ratio |\n"
+           "|---|---|---|---|---|---|---|\n");
+    for (uint8_t d = 2; d <= 4; d++) {
+        if (ours.leaf_at)
+            query_row("leaf_at", leaf_at_round, d);
+        if (ours.value_at)
+            query_row("value_at", value_at_round, d);
+    }
 }
 
 /* A good sheet of at most so many bytes, to a file. */
@@ -371,16 +471,7 @@ int main(int count, char **words)
         random_sheet(d);
         row(sheet_names[d - 2], sheet_check_round, sheet_records);
     }
-    if (!ours.sheet_check)
-        return 0;
-    printf("\n| dimension | leaves | bytes | ours, MB/s | plain C, MB/s | speed |\n|---|---|---|---|---|---|\n");
-    for (uint8_t d = 2; d <= 4; d++)
-        for (size_t leaves = 10000; leaves <= 100000; leaves *= 10)
-            speed_row(d, leaves);
-    printf("\n| dimension | leaves | ours, ns a record | plain C, ns | ratio | C by the next cell, ns | ratio |\n"
-           "|---|---|---|---|---|---|---|\n");
-    for (uint8_t d = 2; d <= 4; d++)
-        for (size_t leaves = 10000; leaves <= 1000000; leaves *= 10)
-            record_row(d, leaves);
+    sheet_tables();
+    query_table();
     return 0;
 }

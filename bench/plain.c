@@ -565,3 +565,140 @@ rmk_sheet_answer plain_sheet_by_next(const uint8_t *sheet, size_t sheet_length)
         answer.records = records;
     return answer;
 }
+
+static unsigned two_bytes(const uint8_t *at) { return at[0] | (unsigned)at[1] << 8; }
+
+/* The coordinates of a point, or 0 where they are not d or one lies outside the cube. */
+static int read_point(const uint8_t *bytes, size_t length, unsigned d, unsigned *point)
+{
+    if (length != 2 * d)
+        return 0;
+    for (unsigned a = 0; a < d; a++) {
+        point[a] = two_bytes(bytes + 2 * a);
+        if (point[a] > RMK_CUBE_SIDE)
+            return 0;
+    }
+    return 1;
+}
+
+/* The first root that has the point: its axes from the greatest coordinate down, equal ones in order. Gives the root's number, and
+ * the point's weights there: each vertex is the one before moved on one axis. */
+static unsigned first_root(const unsigned *point, unsigned d, unsigned *weights)
+{
+    unsigned axes[MOST_AXES], number = 0, before = RMK_CUBE_SIDE;
+    for (unsigned a = 0; a < d; a++) {
+        unsigned at = a;
+        for (; at > 0 && point[axes[at - 1]] < point[a]; at--)
+            axes[at] = axes[at - 1];
+        axes[at] = a;
+    }
+    for (unsigned i = 0; i < d; i++) {
+        unsigned smaller = 0; /* of the axes that stand later */
+        for (unsigned j = i + 1; j < d; j++)
+            smaller += axes[j] < axes[i];
+        number = number * (d - i) + smaller;
+        weights[i] = before - point[axes[i]];
+        before = point[axes[i]];
+    }
+    weights[d] = before;
+    return number;
+}
+
+/* The first child that has the point. With m the midpoint of v0 and vk, v0 is 2m - vk and vk is 2m - v0. */
+static unsigned step_toward(unsigned *weights, unsigned k)
+{
+    unsigned first = weights[0], last = weights[k];
+    if (first >= last) {
+        weights[0] = first - last;
+        weights[k] = 2 * last;
+        return 0;
+    }
+    for (unsigned i = 1; i < k; i++)
+        weights[i - 1] = weights[i];
+    weights[k - 1] = last - first;
+    weights[k] = 2 * first;
+    return 1;
+}
+
+/* Where on the line the first cell of a depth begins that has the point, in cells of that depth; and the point's weights there, of
+ * the cube's side as their sum. */
+static uint64_t way_down(const unsigned *point, unsigned d, unsigned depth, unsigned *weights)
+{
+    uint64_t at = first_root(point, d, weights);
+    for (unsigned t = 0, k = d; t < depth; t++, k = k == 1 ? d : k - 1)
+        at = 2 * at + step_toward(weights, k);
+    return at;
+}
+
+/* The record of a good sheet whose cell has the cell of greatest depth at a place of the line. */
+static const uint8_t *record_over(const uint8_t *record, uint64_t place, size_t *number)
+{
+    unsigned d = record[MARK], depth = record[MARK + 1];
+    uint64_t end = (uint64_t)1 << (RMK_HALVINGS * d - depth);
+    for (*number = 0; end <= place; ++*number) {
+        record += MARK + HEAD + d + depth / d + 2 * (d + 1);
+        depth = record[MARK + 1];
+        end += (uint64_t)1 << (RMK_HALVINGS * d - depth);
+    }
+    return record;
+}
+
+/* The leaf at a point, and the point's weights there. */
+typedef struct {
+    uint8_t refusal;
+    size_t offset, number;
+    unsigned d, side, weights[MOST_AXES + 1];
+    const uint8_t *samples;
+} leaf;
+
+static leaf leaf_at(const uint8_t *sheet, size_t sheet_length, const uint8_t *bytes, size_t length)
+{
+    rmk_sheet_answer checked = plain_sheet_by_next(sheet, sheet_length);
+    leaf found = {checked.refusal, checked.offset, 0, 0, 0, {0}, sheet};
+    unsigned point[MOST_AXES] = {0};
+    if (found.refusal)
+        return found;
+    found.d = sheet[MARK];
+    if (!read_point(bytes, length, found.d, point)) {
+        found.refusal = RMK_REFUSED_POINT;
+        return found;
+    }
+    uint64_t place = way_down(point, found.d, RMK_HALVINGS * found.d, found.weights);
+    const uint8_t *record = record_over(sheet, place, &found.number);
+    header h = read_head(record + MARK);
+    way_down(point, h.d, h.depth, found.weights);
+    for (unsigned i = 0; i <= h.d; i++)
+        found.weights[i] >>= h.boxes;
+    found.side = RMK_CUBE_SIDE >> h.boxes;
+    found.samples = record + MARK + HEAD + h.d + h.boxes;
+    return found;
+}
+
+rmk_leaf_answer plain_leaf_at(const uint8_t *sheet, size_t sheet_length, const uint8_t *point,
+                              size_t point_length, uint8_t *weights, size_t weights_length)
+{
+    leaf found = leaf_at(sheet, sheet_length, point, point_length);
+    rmk_leaf_answer answer = {found.refusal, found.offset, 0, 0};
+    if (!answer.refusal && weights_length < 2 * (found.d + 1))
+        answer.refusal = RMK_REFUSED_SHORT;
+    if (answer.refusal)
+        return answer;
+    put_point(weights, found.weights, found.d + 1);
+    answer.number = found.number;
+    answer.length = 2 * (found.d + 1);
+    return answer;
+}
+
+rmk_value_answer plain_value_at(const uint8_t *sheet, size_t sheet_length, const uint8_t *point,
+                                size_t point_length)
+{
+    leaf found = leaf_at(sheet, sheet_length, point, point_length);
+    rmk_value_answer answer = {found.refusal, found.offset, 0};
+    if (answer.refusal)
+        return answer;
+    uint32_t sum = 0; /* at most 4096 times 65,535 */
+    for (unsigned i = 0; i <= found.d; i++)
+        sum += found.weights[i] * two_bytes(found.samples + 2 * i);
+    answer.value = (double)sum / found.side;
+    return answer;
+}

@@ -4,8 +4,8 @@
  * with what the document says; what differs is printed, and the exit status is then 1.
  *
  * It is C11 and C++11, so that the header is tried in both. What is expected comes from the document's text: the worked
- * cells P1 to P9, the 24-byte sheet, the limits, the order of the refusals, and for a few more cells the rules of the
- * bisection and of the code, followed by hand.
+ * cells P1 to P10, the 24-byte sheet, the limits, the order of the refusals, and for a few more cells and points the rules
+ * of the bisection, of the code and of the weights, followed by hand.
  */
 #include "reshmokhit.h"
 #include "reshmokhit.h" /* the second time changes nothing */
@@ -23,6 +23,7 @@ static_assert(RMK_LONGEST_ROOT == 4, "a root is d bytes, d at most 4");
 static_assert(RMK_LONGEST_PATH == 48, "one byte for each step, at most 12 times 4");
 static_assert(RMK_LONGEST_CODE == 18, "2 + d + L, at most 18");
 static_assert(RMK_LONGEST_POINTS == 40, "5 points of 4 coordinates of 2 bytes");
+static_assert(RMK_LONGEST_WEIGHTS == 10, "5 weights of 2 bytes");
 
 static_assert(RMK_DONE == 0, "done");
 static_assert(RMK_REFUSED_DIMENSION == 1, "dimension is not 2, 3 or 4");
@@ -65,6 +66,17 @@ FIELD(rmk_sheet_answer, size_t, offset, sizeof(size_t));
 FIELD(rmk_sheet_answer, size_t, records, 2 * sizeof(size_t));
 static_assert(sizeof(rmk_sheet_answer) == 3 * sizeof(size_t), "rmk_sheet_answer has other fields");
 
+FIELD(rmk_leaf_answer, uint8_t, refusal, 0);
+FIELD(rmk_leaf_answer, size_t, offset, sizeof(size_t));
+FIELD(rmk_leaf_answer, size_t, number, 2 * sizeof(size_t));
+FIELD(rmk_leaf_answer, size_t, length, 3 * sizeof(size_t));
+static_assert(sizeof(rmk_leaf_answer) == 4 * sizeof(size_t), "rmk_leaf_answer has other fields");
+
+FIELD(rmk_value_answer, uint8_t, refusal, 0);
+FIELD(rmk_value_answer, size_t, offset, sizeof(size_t));
+FIELD(rmk_value_answer, double, value, 2 * sizeof(size_t));
+static_assert(sizeof(rmk_value_answer) == 2 * sizeof(size_t) + sizeof(double), "rmk_value_answer has other fields");
+
 /* A pointer of the expected type takes an entry of that type alone. */
 #define TYPE(entry, answer, ...) \
     do { \
@@ -82,6 +94,8 @@ static void entry_types(void)
     TYPE(rmk_parent, rmk_written, const uint8_t *, size_t, uint8_t *, size_t);
     TYPE(rmk_cross, rmk_crossed, const uint8_t *, size_t, uint8_t, uint8_t *, size_t);
     TYPE(rmk_sheet_check, rmk_sheet_answer, const uint8_t *, size_t);
+    TYPE(rmk_leaf_at, rmk_leaf_answer, const uint8_t *, size_t, const uint8_t *, size_t, uint8_t *, size_t);
+    TYPE(rmk_value_at, rmk_value_answer, const uint8_t *, size_t, const uint8_t *, size_t);
 }
 
 /* Byte strings and lent outputs. */
@@ -117,6 +131,7 @@ static bytes hex(const char *text)
     return read_numbers(text, 16, 1);
 }
 
+/* Coordinates or weights. */
 static bytes coordinates(const char *text)
 {
     return read_numbers(text, 10, 2);
@@ -155,6 +170,15 @@ static void same_number(const char *name, size_t expected, size_t given)
     if (expected == given)
         return;
     printf("%s: %s is %zu, not %zu\n", call, name, given, expected);
+    differences++;
+}
+
+/* Bit for bit, so that -0.0 is not +0.0. */
+static void same_value(double expected, double given)
+{
+    if (memcmp(&expected, &given, sizeof given) == 0)
+        return;
+    printf("%s: value is %.17g, not %.17g\n", call, given, expected);
     differences++;
 }
 
@@ -269,6 +293,63 @@ static void sheet_check(const char *sheet_text, uint8_t refusal, size_t offset, 
     same_number("refusal", refusal, answer.refusal);
     same_number("offset", offset, answer.offset);
     same_number("records", records, answer.records);
+}
+
+/* A point as bytes, which need not be whole coordinates; its text is for the report. */
+static void leaf_at_bytes(const char *sheet_text, const char *point_text, bytes point, size_t lent, uint8_t refusal,
+                          size_t offset, size_t number, const char *weights_text)
+{
+    bytes sheet = hex(sheet_text), expected = coordinates(weights_text), weights = lend(lent);
+    begin("leaf", sheet_text, point_text);
+    rmk_leaf_answer answer =
+        rmk_leaf_at(sheet.at, sheet.length, point.at, point.length, weights.at, weights.length);
+    same_number("refusal", refusal, answer.refusal);
+    same_number("offset", offset, answer.offset);
+    same_number("number", number, answer.number);
+    same_number("length", expected.length, answer.length);
+    same_cells("weights", &expected, &weights);
+}
+
+static void value_at_bytes(const char *sheet_text, const char *point_text, bytes point, uint8_t refusal, size_t offset,
+                           double value)
+{
+    bytes sheet = hex(sheet_text);
+    begin("value", sheet_text, point_text);
+    rmk_value_answer answer = rmk_value_at(sheet.at, sheet.length, point.at, point.length);
+    same_number("refusal", refusal, answer.refusal);
+    same_number("offset", offset, answer.offset);
+    same_value(value, answer.value);
+}
+
+/* Both queries at a point of a good sheet. */
+static void query(const char *sheet_text, const char *point_text, size_t number, const char *weights_text, double value)
+{
+    bytes point = coordinates(point_text);
+    leaf_at_bytes(sheet_text, point_text, point, AMPLE, RMK_DONE, 0, number, weights_text);
+    leaf_at_bytes(sheet_text, point_text, point, coordinates(weights_text).length, RMK_DONE, 0, number, weights_text);
+    value_at_bytes(sheet_text, point_text, point, RMK_DONE, 0, value);
+}
+
+/* Both queries refused, the leaf's with room and with none. */
+static void query_refused(const char *sheet_text, const char *point_text, bytes point, uint8_t refusal, size_t offset)
+{
+    leaf_at_bytes(sheet_text, point_text, point, AMPLE, refusal, offset, 0, "");
+    leaf_at_bytes(sheet_text, point_text, point, 0, refusal, offset, 0, "");
+    value_at_bytes(sheet_text, point_text, point, refusal, offset, 0.0);
+}
+
+static void point_refused(const char *sheet_text, const char *point_text)
+{
+    query_refused(sheet_text, point_text, coordinates(point_text), RMK_REFUSED_POINT, 0);
+}
+
+/* The sheet check and both queries, which refuse a sheet as it does, whatever the point and the lent output. */
+static void sheet_refused(const char *sheet_text, uint8_t refusal, size_t offset)
+{
+    sheet_check(sheet_text, refusal, offset, 0);
+    query_refused(sheet_text, "1024 1024", coordinates("1024 1024"), refusal, offset);
+    query_refused(sheet_text, "4097 0", coordinates("4097 0"), refusal, offset);
+    query_refused(sheet_text, "", coordinates(""), refusal, offset);
 }
 
 /* Document 01's examples. */
@@ -459,28 +540,67 @@ static void try_cross(void)
 static void try_sheet_check(void)
 {
     sheet_check(RECORD_0 RECORD_1, RMK_DONE, 0, 2);
-    sheet_check(RECORD_0, RMK_REFUSED_LEAF, 12, 0);
-    sheet_check("", RMK_REFUSED_LEAF, 0, 0);
+    sheet_refused(RECORD_0, RMK_REFUSED_LEAF, 12);
+    sheet_refused("", RMK_REFUSED_LEAF, 0);
     /* The first root's two children, P7 and P2, in its place. */
     sheet_check("43 4C " P7 SAMPLES_2 "43 4C " P2 SAMPLES_2 RECORD_1, RMK_DONE, 0, 3);
-    sheet_check("43 4C " P7 SAMPLES_2 RECORD_1, RMK_REFUSED_LEAF, 12, 0); /* a gap */
-    sheet_check(RECORD_0 "43 4C " P2 SAMPLES_2 RECORD_1, RMK_REFUSED_LEAF, 12, 0); /* an overlap */
-    sheet_check(RECORD_1 RECORD_0, RMK_REFUSED_LEAF, 0, 0);
-    sheet_check(RECORD_0 RECORD_0, RMK_REFUSED_LEAF, 12, 0);
-    sheet_check(RECORD_0 RECORD_1 RECORD_1, RMK_REFUSED_LEAF, 24, 0);
-    sheet_check(RECORD_0 "43 4C " ROOT_3 SAMPLES_3, RMK_REFUSED_LEAF, 12, 0); /* another dimension */
-    sheet_check("43 4D 02 00 01 02" SAMPLES_2 RECORD_1, RMK_REFUSED_RECORD, 0, 0);
-    sheet_check(RECORD_0 "00 4C 02 00 02 01" SAMPLES_2, RMK_REFUSED_RECORD, 12, 0);
-    sheet_check(RECORD_0 RECORD_1 "00", RMK_REFUSED_RECORD, 24, 0);
-    sheet_check(RECORD_0 "43 4C 05", RMK_REFUSED_RECORD, 12, 0); /* fewer than two bytes after the mark */
-    sheet_check(RECORD_0 "43 4C 05 FF", RMK_REFUSED_DIMENSION, 12, 0);
-    sheet_check(RECORD_0 "43 4C 02 19", RMK_REFUSED_DEPTH, 12, 0);
-    sheet_check(RECORD_0 "43 4C 02 00 02", RMK_REFUSED_RECORD, 12, 0); /* code cut */
-    sheet_check(RECORD_0 "43 4C 02 00 02 02", RMK_REFUSED_PERMUTATION, 12, 0);
-    sheet_check(RECORD_0 "43 4C 02 02 02 01 04", RMK_REFUSED_ORTHANT, 12, 0);
-    sheet_check(RECORD_0 "43 4C " P9_BAD_ROOT, RMK_REFUSED_SIGN, 12, 0);
-    sheet_check(RECORD_0 "43 4C 02 00 02 01 0A 00 1E 00 32", RMK_REFUSED_RECORD, 12, 0); /* samples cut */
-    sheet_check("43 4C 02 00 02 01 0A 00 1E 00 32", RMK_REFUSED_RECORD, 0, 0); /* before 14 */
+    sheet_refused("43 4C " P7 SAMPLES_2 RECORD_1, RMK_REFUSED_LEAF, 12); /* a gap */
+    sheet_refused(RECORD_0 "43 4C " P2 SAMPLES_2 RECORD_1, RMK_REFUSED_LEAF, 12); /* an overlap */
+    sheet_refused(RECORD_1 RECORD_0, RMK_REFUSED_LEAF, 0);
+    sheet_refused(RECORD_0 RECORD_0, RMK_REFUSED_LEAF, 12);
+    sheet_refused(RECORD_0 RECORD_1 RECORD_1, RMK_REFUSED_LEAF, 24);
+    sheet_refused(RECORD_0 "43 4C " ROOT_3 SAMPLES_3, RMK_REFUSED_LEAF, 12); /* another dimension */
+    sheet_refused("43 4D 02 00 01 02" SAMPLES_2 RECORD_1, RMK_REFUSED_RECORD, 0);
+    sheet_refused(RECORD_0 "00 4C 02 00 02 01" SAMPLES_2, RMK_REFUSED_RECORD, 12);
+    sheet_refused(RECORD_0 RECORD_1 "00", RMK_REFUSED_RECORD, 24);
+    sheet_refused(RECORD_0 "43 4C 05", RMK_REFUSED_RECORD, 12); /* fewer than two bytes after the mark */
+    sheet_refused(RECORD_0 "43 4C 05 FF", RMK_REFUSED_DIMENSION, 12);
+    sheet_refused(RECORD_0 "43 4C 02 19", RMK_REFUSED_DEPTH, 12);
+    sheet_refused(RECORD_0 "43 4C 02 00 02", RMK_REFUSED_RECORD, 12); /* code cut */
+    sheet_refused(RECORD_0 "43 4C 02 00 02 02", RMK_REFUSED_PERMUTATION, 12);
+    sheet_refused(RECORD_0 "43 4C 02 02 02 01 04", RMK_REFUSED_ORTHANT, 12);
+    sheet_refused(RECORD_0 "43 4C " P9_BAD_ROOT, RMK_REFUSED_SIGN, 12);
+    sheet_refused(RECORD_0 "43 4C 02 00 02 01 0A 00 1E 00 32", RMK_REFUSED_RECORD, 12); /* samples cut */
+    sheet_refused("43 4C 02 00 02 01 0A 00 1E 00 32", RMK_REFUSED_RECORD, 0); /* before 14 */
+}
+
+#define SHEET RECORD_0 RECORD_1
+#define HALVED "43 4C " P7 SAMPLES_2 "43 4C " P2 SAMPLES_2 RECORD_1 /* the first root's two children */
+#define CORNER "43 4C " P8_ACROSS_0 SAMPLES_2 "43 4C " P3 SAMPLES_2 "43 4C " P2 SAMPLES_2 RECORD_1
+
+static void try_queries(void)
+{
+    query(SHEET, "1024 1024", 0, "3072 0 1024", 20.0); /* P10: both leaves have the point, the first counts */
+    query(SHEET, "0 0", 0, "4096 0 0", 10.0);
+    query(SHEET, "4096 4096", 0, "0 0 4096", 50.0);
+    query(SHEET, "4096 0", 0, "0 4096 0", 20.0);
+    query(SHEET, "0 4096", 1, "0 4096 0", 30.0);
+    query(SHEET, "2048 1024", 0, "2048 1024 1024", 22.5);
+    query(SHEET, "1024 2048", 1, "2048 1024 1024", 25.0);
+    query(SHEET, "1 0", 0, "4095 1 0", 10.00244140625); /* 10 and 10 / 4096 */
+    query(HALVED, "2048 2048", 0, "0 0 4096", 50.0); /* a vertex of all three leaves */
+    query(HALVED, "3072 1024", 0, "0 2048 2048", 35.0); /* on the facet that the two children share */
+    query(HALVED, "4096 2048", 1, "2048 2048 0", 15.0);
+    query(HALVED, "1024 2048", 2, "2048 1024 1024", 25.0);
+    /* Depth 2: the box has side 2048, and so is the sum of the weights. */
+    query(CORNER, "2048 1024", 0, "0 1024 1024", 35.0);
+    query(CORNER, "3072 0", 1, "1024 1024 0", 15.0);
+    query(CORNER, "3072 1024", 1, "1024 0 1024", 30.0);
+    query("43 4C " P1 " 00 00 00 00 00 00 " RECORD_1, "1 1", 0, "4095 0 1", 0.0);
+    query("43 4C " P1 " FF FF FF FF FF FF " RECORD_1, "4096 1", 0, "0 4095 1", 65535.0);
+}
+
+static void try_query_refusals(void)
+{
+    const char *points[] = {"4097 0", "0 4097", "4096 4097", "65535 65535", "", "1024", "1024 1024 1024",
+                            "1024 1024 1024 1024"};
+    for (size_t i = 0; i < sizeof points / sizeof points[0]; i++)
+        point_refused(SHEET, points[i]);
+    query_refused(SHEET, "00", hex("00"), RMK_REFUSED_POINT, 0);
+    query_refused(SHEET, "00 04 00", hex("00 04 00"), RMK_REFUSED_POINT, 0);
+    query_refused(SHEET, "00 04 00 04 00", hex("00 04 00 04 00"), RMK_REFUSED_POINT, 0);
+    for (size_t lent = 0; lent < 6; lent++)
+        leaf_at_bytes(SHEET, "1024 1024", coordinates("1024 1024"), lent, RMK_REFUSED_SHORT, 0, 0, "");
 }
 
 int main(void)
@@ -494,6 +614,8 @@ int main(void)
     try_parent();
     try_cross();
     try_sheet_check();
+    try_queries();
+    try_query_refusals();
     printf("every_entry: %zu answers compared, %zu differences\n", answers, differences);
     return differences != 0;
 }

@@ -14,7 +14,7 @@
  *  - A refusal changes no lent cell, and the answer's other numbers are zero, with one exception: a
  *    refusal found while reading a sheet gives the offset too. On success the cells past the answer
  *    keep their content.
- *  - A coordinate is two bytes, low byte first.
+ *  - A coordinate is two bytes, low byte first; so is a weight.
  *
  * The order for a code, named once: RMK_REFUSED_LENGTH (under 2 bytes), DIMENSION, DEPTH, LENGTH,
  * PERMUTATION, ORTHANT, SIGN.
@@ -30,12 +30,13 @@ extern "C" {
 #endif
 
 /* Sizes. The longest ones suffice as lent outputs in every dimension. */
-#define RMK_HALVINGS 12       /* the greatest depth is this times the dimension */
-#define RMK_CUBE_SIDE 4096    /* two to the power RMK_HALVINGS */
-#define RMK_LONGEST_ROOT 4    /* bytes: d */
-#define RMK_LONGEST_PATH 48   /* bytes: one for each step */
-#define RMK_LONGEST_CODE 18   /* bytes: 2 + d + depth div d */
-#define RMK_LONGEST_POINTS 40 /* bytes: 2 d (d + 1) */
+#define RMK_HALVINGS 12        /* the greatest depth is this times the dimension */
+#define RMK_CUBE_SIDE 4096     /* two to the power RMK_HALVINGS */
+#define RMK_LONGEST_ROOT 4     /* bytes: d */
+#define RMK_LONGEST_PATH 48    /* bytes: one for each step */
+#define RMK_LONGEST_CODE 18    /* bytes: 2 + d + depth div d */
+#define RMK_LONGEST_POINTS 40  /* bytes: 2 d (d + 1) */
+#define RMK_LONGEST_WEIGHTS 10 /* bytes: 2 (d + 1) */
 
 /* Refusal numbers. */
 #define RMK_DONE 0
@@ -81,6 +82,21 @@ typedef struct {
     size_t offset;  /* on a refusal: where the record's first mark byte stands or should stand; else 0 */
     size_t records; /* of a good sheet, else 0 */
 } rmk_sheet_answer;
+
+/* Answer of the leaf at a point. */
+typedef struct {
+    uint8_t refusal;
+    size_t offset; /* on a refusal of the sheet: as the sheet check gives it; else 0 */
+    size_t number; /* the record's, counted from 0 */
+    size_t length; /* bytes of weights written, from the output's first cell on */
+} rmk_leaf_answer;
+
+/* Answer of the grey value at a point. */
+typedef struct {
+    uint8_t refusal;
+    size_t offset; /* on a refusal of the sheet: as the sheet check gives it; else 0 */
+    double value;  /* exact; +0.0 on a refusal */
+} rmk_value_answer;
 
 /** Code check: is a byte string the code of a cell?
  * \param [in] code     The byte string: dimension; depth D; d signed axes (plus 128 for minus);
@@ -192,6 +208,37 @@ rmk_crossed rmk_cross(const uint8_t *code, size_t code_length, uint8_t facet, ui
  *                      done with 2 records; its first 12 bytes are RMK_REFUSED_LEAF, offset 12.
  */
 rmk_sheet_answer rmk_sheet_check(const uint8_t *sheet, size_t sheet_length);
+
+/** Leaf at a point: the first leaf in tree order whose closed cell contains the point, and the point's
+ * weights there.
+ * \param [in] sheet    The sheet, as the sheet check takes it. The whole of it is checked at each call.
+ * \param [in] point    d coordinates, each from 0 to 4096: 2 d bytes.
+ * \param [out] weights Lent. Gets d + 1 weights, one for each vertex of the leaf, in vertex order:
+ *                      2 (d + 1) bytes. With s the side of the leaf's box, they are the only whole
+ *                      numbers from 0 to s of sum s whose weighted vertices sum to s times the point.
+ * \return              The refusal, its offset, the record's number and the bytes written.
+ *
+ * Refusals, in order:  those of the sheet check, with its offset; RMK_REFUSED_POINT, SHORT.
+ * Assumed:             each pointer is non-null and valid for its length; `weights` overlaps neither
+ *                      `sheet` nor `point`.
+ * Example:             the sheet check's 24 bytes at (1024,1024), which is 00 04 00 04: record 0, weights
+ *                      3072, 0, 1024, which is 00 0C  00 00  00 04, length 6.
+ */
+rmk_leaf_answer rmk_leaf_at(const uint8_t *sheet, size_t sheet_length, const uint8_t *point,
+                            size_t point_length, uint8_t *weights, size_t weights_length);
+
+/** Grey value at a point: the weighted samples of the leaf at the point.
+ * \param [in] sheet    The sheet, as the sheet check takes it. The whole of it is checked at each call.
+ * \param [in] point    d coordinates, each from 0 to 4096: 2 d bytes.
+ * \return              The refusal, its offset, and the value: the sum of weight i times sample i,
+ *                      divided by s. A binary64 holds it exactly; zero is +0.0.
+ *
+ * Refusals, in order:  those of the sheet check, with its offset; RMK_REFUSED_POINT.
+ * Assumed:             each pointer is non-null and valid for its length.
+ * Example:             the sheet check's 24 bytes at (1024,1024), which is 00 04 00 04: value 20.
+ */
+rmk_value_answer rmk_value_at(const uint8_t *sheet, size_t sheet_length, const uint8_t *point,
+                              size_t point_length);
 
 #ifdef __cplusplus
 }

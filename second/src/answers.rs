@@ -31,6 +31,31 @@ pub struct SheetAnswer {
     pub records: usize,
 }
 
+#[repr(C)]
+#[derive(Clone, Copy, PartialEq, Debug)]
+pub struct LeafAnswer {
+    pub refusal: u8,
+    pub offset: usize,
+    pub number: usize,
+    pub length: usize,
+}
+
+/// Equal where the value is so bit for bit: -0.0 is not +0.0.
+#[repr(C)]
+#[derive(Clone, Copy, Debug)]
+pub struct ValueAnswer {
+    pub refusal: u8,
+    pub offset: usize,
+    pub value: f64,
+}
+
+impl PartialEq for ValueAnswer {
+    fn eq(&self, other: &ValueAnswer) -> bool {
+        let parts = |answer: &ValueAnswer| (answer.refusal, answer.offset, answer.value.to_bits());
+        parts(self) == parts(other)
+    }
+}
+
 impl Written {
     pub fn refused(refusal: u8) -> Written {
         Written { refusal, length: 0 }
@@ -46,5 +71,17 @@ impl PathWritten {
 impl Crossed {
     pub fn refused(refusal: u8) -> Crossed {
         Crossed { refusal, place: 0, length: 0 }
+    }
+}
+
+impl LeafAnswer {
+    pub fn refused(refusal: u8, offset: usize) -> LeafAnswer {
+        LeafAnswer { refusal, offset, number: 0, length: 0 }
+    }
+}
+
+impl ValueAnswer {
+    pub fn refused(refusal: u8, offset: usize) -> ValueAnswer {
+        ValueAnswer { refusal, offset, value: f64::from_bits(0) }
     }
 }

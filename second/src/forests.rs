@@ -26,29 +26,49 @@ pub fn leaf(random: &mut Random, root: &[u8], path: &[u8]) -> Leaf {
     Leaf { cell, record: [&MARK[..], &code, &samples].concat() }
 }
 
-/// The leaves of a tree that is split toward the target and elsewhere now and then.
-fn grow(random: &mut Random, cell: Found, target: &Found, leaves: &mut Vec<Leaf>) {
-    let toward = target.root == cell.root && target.path.starts_with(&cell.path);
-    let deeper = cell.path.len() < target.path.len();
+/// Says of a cell that may be split whether it is.
+type Rule<'a> = &'a dyn Fn(&mut Random, &Found) -> bool;
+
+/// The leaves of a tree whose cells are split by a rule.
+fn grow(random: &mut Random, cell: Found, rule: Rule, leaves: &mut Vec<Leaf>) {
     let may = cell.path.len() < greatest_depth(cell.root.len());
-    if !(toward && deeper || may && random.once_in(6)) {
+    if !(may && rule(random, &cell)) {
         return leaves.push(leaf(random, &cell.root, &cell.path));
     }
     for which in 0..2 {
         let path = [&cell.path[..], &[which]].concat();
-        grow(random, Found { root: cell.root.clone(), path }, target, leaves);
+        grow(random, Found { root: cell.root.clone(), path }, rule, leaves);
     }
 }
 
-/// The leaves of a good sheet that has one at the depth at least.
-pub fn good_sheet(random: &mut Random, d: usize, depth: usize) -> Vec<Leaf> {
-    let path = inputs::good_path(random, depth);
-    let target = Found { root: inputs::good_root(random, d), path };
+fn grow_roots(random: &mut Random, d: usize, rule: Rule) -> Vec<Leaf> {
     let mut leaves = Vec::new();
     for root in roots(d) {
-        grow(random, Found { root, path: Vec::new() }, &target, &mut leaves);
+        grow(random, Found { root, path: Vec::new() }, rule, &mut leaves);
     }
     leaves
+}
+
+fn random_cell(random: &mut Random, d: usize, depth: usize) -> Found {
+    let path = inputs::good_path(random, depth);
+    Found { root: inputs::good_root(random, d), path }
+}
+
+fn is_inside(cell: &Found, other: &Found) -> bool {
+    cell.root == other.root && cell.path.starts_with(&other.path)
+}
+
+/// The leaves of a good sheet that has one at the depth at least, and is split elsewhere now and then.
+pub fn good_sheet(random: &mut Random, d: usize, depth: usize) -> Vec<Leaf> {
+    let target = random_cell(random, d, depth);
+    let toward = |cell: &Found| is_inside(&target, cell) && cell.path.len() < depth;
+    grow_roots(random, d, &|random, cell| toward(cell) || random.once_in(6))
+}
+
+/// The leaves of a good sheet that has all cells of greatest depth inside one, so many steps above them.
+pub fn deepest_sheet(random: &mut Random, d: usize, above: usize) -> Vec<Leaf> {
+    let target = random_cell(random, d, greatest_depth(d) - above);
+    grow_roots(random, d, &|_, cell| is_inside(&target, cell) || is_inside(cell, &target))
 }
 
 /// The leaves of a good sheet, split at random until it has so many bytes or more. The last `kept` roots

@@ -14,7 +14,10 @@ pub mod forests; // good sheets, as leaves of random forests
 pub mod inputs; // good, damaged and random inputs
 pub mod lent; // lent outputs and the comparison of outcomes
 pub mod listing; // "The listing program": the text of a sheet
+pub mod points; // points in, on and around cells
+pub mod queries; // "Sheets": the leaf and the grey value at a point
 pub mod random; // a repeatable source of numbers
 pub mod sheets; // "Sheets": records, and the forest that they are the leaves of
 pub mod sizes; // sizes and refusal numbers
+pub mod weighing; // "Sheets": a point's weights in a cell, by elimination; fractions as binary64
 pub mod worked; // the cells worked by hand

@@ -1,7 +1,7 @@
 //! Document 01, "Sheets": records, and the trees that they are the leaves of, built by recursion.
 
 use crate::answers::SheetAnswer;
-use crate::bisection::roots;
+use crate::bisection::{roots, Cell};
 use crate::codes::Code;
 use crate::entries::Reading;
 use crate::finder::{Finder, Found};
@@ -19,22 +19,29 @@ pub fn samples_length(d: usize) -> usize {
 /// A refusal and the offset of the record at which it was found.
 pub type Refused = (u8, usize);
 
-/// A whole record that passed its own tests: its cell, and where the bytes after it start.
+/// A whole record that passed its own tests: its cell, where its samples start and the bytes after it.
 struct Record {
     cell: Found,
+    samples: usize,
     end: usize,
 }
 
-/// A cell that is a leaf, or one whose children are trees.
+/// A cell that is a leaf, with the offset of its samples, or one whose children are trees.
 enum Tree {
-    Leaf,
+    Leaf(usize),
     Split(Box<Tree>, Box<Tree>),
+}
+
+/// A leaf's cell, by bisection from its root, and the samples at its vertices.
+pub struct Sampled {
+    pub cell: Cell,
+    pub samples: Vec<u16>,
 }
 
 impl Tree {
     fn codes(&self, here: &Code, codes: &mut Vec<Vec<u8>>) {
         match self {
-            Tree::Leaf => codes.push(here.bytes()),
+            Tree::Leaf(_) => codes.push(here.bytes()),
             Tree::Split(zero, one) => {
                 for (which, tree) in [zero, one].into_iter().enumerate() {
                     let mut child = here.clone();
@@ -47,8 +54,22 @@ impl Tree {
 
     fn leaves(&self) -> usize {
         match self {
-            Tree::Leaf => 1,
+            Tree::Leaf(_) => 1,
             Tree::Split(zero, one) => zero.leaves() + one.leaves(),
+        }
+    }
+
+    fn sampled(&self, cell: Cell, sheet: &[u8], leaves: &mut Vec<Sampled>) {
+        match self {
+            Tree::Leaf(at) => {
+                let bytes = &sheet[*at..at + samples_length(cell.dimension())];
+                let samples = bytes.chunks(2).map(|two| two[0] as u16 + 256 * two[1] as u16);
+                leaves.push(Sampled { cell, samples: samples.collect() });
+            }
+            Tree::Split(zero, one) => {
+                zero.sampled(cell.child(0), sheet, leaves);
+                one.sampled(cell.child(1), sheet, leaves);
+            }
         }
     }
 }
@@ -73,6 +94,17 @@ impl<'a> Sheets<'a> {
             tree.codes(&Code::root(root), &mut codes);
         }
         Ok(codes)
+    }
+
+    /// The leaves of a good sheet in tree order, with their samples.
+    pub fn leaves(&self, sheet: &[u8]) -> Result<Vec<Sampled>, Refused> {
+        let trees = self.forest(sheet)?;
+        let d = sheet[MARK.len()] as usize;
+        let mut leaves = Vec::new();
+        for (root, tree) in roots(d).iter().zip(&trees) {
+            tree.sampled(Cell::root(root), sheet, &mut leaves);
+        }
+        Ok(leaves)
     }
 
     pub fn check(&self, sheet: &[u8]) -> SheetAnswer {
@@ -105,7 +137,7 @@ impl<'a> Sheets<'a> {
         let record = self.next(sheet, *at)?;
         if record.cell == *cell {
             *at = record.end;
-            return Ok(Tree::Leaf);
+            return Ok(Tree::Leaf(record.samples));
         }
         if record.cell.root != cell.root || !record.cell.path.starts_with(&cell.path) {
             return Err((REFUSED_LEAF, *at));
@@ -144,7 +176,7 @@ impl<'a> Sheets<'a> {
         let cell = self.read(code)?;
         let samples = at + 2 + code.len();
         part(samples, samples_length(d))?;
-        Ok(Record { cell, end: samples + samples_length(d) })
+        Ok(Record { cell, samples, end: samples + samples_length(d) })
     }
 
     fn read(&self, code: &[u8]) -> Reading {

@@ -18,6 +18,7 @@ pub const REFUSED_FACE: u8 = 8;
 pub const REFUSED_ROOT: u8 = 9;
 pub const REFUSED_DEEPEST: u8 = 10;
 pub const REFUSED_SHORT: u8 = 11;
+pub const REFUSED_POINT: u8 = 12;
 pub const REFUSED_RECORD: u8 = 13;
 pub const REFUSED_LEAF: u8 = 14;
 

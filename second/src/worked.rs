@@ -1,13 +1,14 @@
 //! Document 01, "Cells worked by hand", copied from the document. The second program is held to them
 //! before anything is compared with it.
 
-use crate::answers::{Crossed, SheetAnswer};
+use crate::answers::{Crossed, LeafAnswer, SheetAnswer, ValueAnswer};
 use crate::bisection::Cell;
 use crate::codes::Code;
 use crate::crossing;
 use crate::entries;
 use crate::finder::{Finder, Found};
 use crate::inputs::{good_path, good_root};
+use crate::queries::{leaf_at, value_at, Asked};
 use crate::random::Random;
 use crate::sheets::Sheets;
 use crate::sizes::*;
@@ -72,6 +73,7 @@ pub fn check(finder: &Finder) {
     crossings(finder);
     limits(finder);
     sheets(finder);
+    queries(finder);
     signed_entries();
 }
 
@@ -106,6 +108,18 @@ fn sheets(finder: &Finder) {
     assert_eq!(sheets.check(&SHEET), SheetAnswer { refusal: DONE, offset: 0, records: 2 });
     assert_eq!(sheets.check(&SHEET[..12]), early(12));
     assert_eq!(sheets.check(&[]), early(0));
+}
+
+/// P10: record 0, weights 3072, 0, 1024, value 20. Coordinate 4096 is good, 4097 is refusal 12.
+fn queries(finder: &Finder) {
+    let asked = Asked::new(&Sheets::new(finder), &SHEET);
+    let (found, mut weights) = (asked.find(&[0, 4, 0, 4]), [0; 6]);
+    let leaf = LeafAnswer { refusal: DONE, offset: 0, number: 0, length: 6 };
+    assert_eq!(leaf_at(&found, &mut weights), leaf);
+    assert_eq!(weights, [0, 12, 0, 0, 0, 4]);
+    assert_eq!(value_at(&found), ValueAnswer { refusal: DONE, offset: 0, value: 20.0 });
+    assert_eq!(value_at(&asked.find(&[0, 16, 0, 16])).refusal, DONE);
+    assert_eq!(value_at(&asked.find(&[1, 16, 0, 0])), ValueAnswer::refused(REFUSED_POINT, 0));
 }
 
 /// Not worked by hand, but said of every cell: for j up to k, vj minus v(j-1) is plus or minus s on the

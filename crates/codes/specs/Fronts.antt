@@ -1,5 +1,5 @@
--- A code at the front of bytes, as those who read records know it: the refusal of its head, the dimension and the length that the
--- head gives it, the code itself, and the refusal of what stands inside. Above the code layer these names are shut: what is
+-- A code at the front of bytes, as those who read records know it: the refusal of its head, the dimension, the depth and the
+-- length that the head gives it, the code itself, and the refusal of what stands inside. Above the code layer these names are shut: what is
 -- known of them are the laws in Fronts/Laws.antt, and none of those says how a code is stored.
 pub mod Laws
 use mathlib.Core.Path.{_≡_}
@@ -7,7 +7,7 @@ use mathlib.Core.List.{List}
 use mathlib.Core.Logic.{_≢_}
 use Prim.Native.Nat.{ℕ}
 use lib.ListN.{length, take}
-use Rattle.bisection.specs.Codes.{dimensionOf}
+use Rattle.bisection.specs.Codes.{dimensionOf, depthOf}
 use Rattle.bisection.specs.Refusals.{done, headRefusal, lengthOf, bodyRefusal}
 use Rattle.codes.specs.declared.Head.{Head}
 
@@ -17,6 +17,9 @@ frontRefusal bs = headRefusal bs
 
 pub frontDimension : List ℕ → ℕ
 frontDimension bs = dimensionOf bs
+
+pub frontDepth : List ℕ → ℕ
+frontDepth bs = depthOf bs
 
 pub frontLength : List ℕ → ℕ
 frontLength bs = lengthOf bs

@@ -7,7 +7,7 @@ ghost use Prim.Native.Nat.{_+_, _-_, _≤_, _<_};
 ghost use lib.ListN.{length, getD, drop};
 ghost use Rattle.dimension.specs.Sizes.{axesOf};
 ghost use Rattle.bisection.specs.Refusals.{codeRefusal};
-ghost use Rattle.codes.specs.Fronts.{HeadIs, Headed, innerRefusal};
+ghost use Rattle.codes.specs.Fronts.{frontDepth, HeadIs, Headed, innerRefusal};
 ghost use Rattle.codes.specs.Outcomes.{PathToCode, CodeToPath, Vertices, Child, Parent};
 use bisection::DONE;
 use bisection::REFUSED_DEEPEST;
@@ -75,6 +75,14 @@ pub fn code_head(bytes: &[u8]) -> Head
             }
         }
     }
+}
+
+// The depth that the head at the front of bytes gives.
+pub fn code_depth(bytes: &[u8]) -> usize
+    requires { ⌜ 2 ≤ length (now bytes) ⌝ }
+    ensures { λ r. ⌜ r ≡ frontDepth (now (bytes .entry)) ⌝ }
+{
+    common::size(bytes[1])
 }
 
 // The refusal 4, 5 or 6 of a code whose head passes and gives it its length.

@@ -12,6 +12,8 @@ use Rattle.crossing.specs.Outcome.{Crosses}
 use Rattle.crossing.specs.Determined.{Same, determined}
 use Rattle.sheets.specs.Sheets.{SheetIs}
 use Rattle.sheets.specs.Theorems.Determined.{sheet-determined}
+use Rattle.queries.specs.Queries.{LeafIs, ValueIs, FlatValueIs}
+use Rattle.queries.specs.Determined.{leaf-determined, value-determined, flat-determined}
 use Rattle.listing.specs.Texts.{Lists}
 use Rattle.listing.specs.Determined.{listing-determined}
 
@@ -31,6 +33,9 @@ pub record EveryEntry : Type 0 where
   pub parent : (code before : List ℕ) → OneOutcome (Parent code before)
   pub cross : (code : List ℕ) (facet : ℕ) (before : List ℕ) → OneOutcome (Crosses code facet before)
   pub sheet-check : (sheet : List ℕ) → OneAnswer (SheetIs sheet)
+  pub leaf-at : (sheet point before : List ℕ) → OneOutcome (LeafIs sheet point before)
+  pub value-at : (sheet point : List ℕ) → OneAnswer (ValueIs sheet point)
+  pub flat-value-at : (sheet point : List ℕ) → OneAnswer (FlatValueIs sheet point)
   pub list-sheet : (sheet before : List ℕ) → OneOutcome (Lists sheet before)
 
 cross-one : {r r′ : Crossed} {after after′ : List ℕ} → Same r after r′ after′ → (r ≡ r′) × (after ≡ after′)
@@ -47,5 +52,8 @@ nothing-open = record {
   parent = λ code before r r′ after after′ a b. parent-determined code a b;
   cross = λ code facet before r r′ after after′ a b. cross-one (determined a b);
   sheet-check = λ sheet r r′ a b. sheet-determined sheet r r′ a b;
+  leaf-at = λ sheet point before r r′ after after′ a b. let s = leaf-determined a b in (s .answer, s .buffer);
+  value-at = λ sheet point r r′ a b. value-determined a b;
+  flat-value-at = λ sheet point r r′ a b. flat-determined a b;
   list-sheet = λ sheet before r r′ after after′ a b. listing-determined sheet before r r′ after after′ a b;
 }

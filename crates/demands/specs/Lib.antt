@@ -8,3 +8,4 @@ pub mod Determined
 -- How a row is shown, and document 01's sheet.
 pub mod Shown
 pub mod TwoLeaves
+pub mod PointTen

@@ -11,6 +11,11 @@ use Rattle.codes.specs.Outcomes.{PathToCode, Vertices, Child}
 use Rattle.crossing.specs.Outcome.{Crosses}
 use Rattle.sheets.specs.Sheets.{told, SheetIs}
 use Rattle.listing.specs.Texts.{Lists}
+use lib.IntN.{pos}
+use lib.Ieee.{binary64, ofInt}
+use Rattle.bisection.specs.Cells.{pointBytes}
+use Rattle.greys.specs.declared.Value.the-variants.{Grey}
+use Rattle.queries.specs.Queries.{leafTold, LeafIs, ValueIs}
 
 pub data Row : Type 0 where
   path-to-code : (root path code : List ℕ) → Row
@@ -23,6 +28,10 @@ pub data Row : Type 0 where
   walled : (code : List ℕ) (facet : ℕ) → Row
   sheet-check : (sheet : List ℕ) (records : ℕ) → Row
   listing : (sheet text : List ℕ) → Row
+  -- the point as bytes, a coordinate in two, the low byte first
+  leaf-at : (sheet point : List ℕ) (number : ℕ) (weights : List ℕ) → Row
+  -- a value that is a whole number
+  value-at : (sheet point : List ℕ) (value : ℕ) → Row
 
 -- the answer stands at the front of every buffer with room for it, and the other cells keep their content
 unfoldable pub Answered : (List ℕ → Written → List ℕ → Type 0) → List ℕ → Type 0
@@ -38,6 +47,9 @@ Holds (cross code facet answer place) = (before : List ℕ) → length answer �
 Holds (walled code facet) = (before : List ℕ) → Crosses code facet before (record { refusal = refusedFace; place = 0; length = 0 }) before
 Holds (sheet-check sheet records) = SheetIs sheet (told done 0 records)
 Holds (listing sheet text) = (before : List ℕ) → Lists sheet before (length text) (text ++ drop (length text) before)
+Holds (leaf-at sheet point number weights) = (before : List ℕ) → length (pointBytes weights) ≤ length before
+    → LeafIs sheet point before (leafTold done 0 number (length (pointBytes weights))) (pointBytes weights ++ drop (length (pointBytes weights)) before)
+Holds (value-at sheet point value) = ValueIs sheet point (Grey (ofInt binary64 (pos value)))
 
 unfoldable pub Every : List Row → Type 0
 Every [] = Unit {0}

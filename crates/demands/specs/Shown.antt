@@ -2,13 +2,14 @@
 use mathlib.Core.Path.{_≡_, refl, sym, ap, _∙_, subst}
 use mathlib.Core.Bool.{true, false}
 use mathlib.Core.List.{List, [], _∷_, _++_}
-use Prim.Native.Nat.{ℕ, suc, _≤_}
+use Prim.Native.Nat.{ℕ, suc, _*_, _^_, _≤_}
 use native.Mathlib.Omega.{arith}
+use native.Mathlib.Nat.{mul-one}
 use lib.Dec.{T, leb, ltb}
 use lib.ListN.{length, drop}
 use borrow.Author.Tests.{le-leb, leb-true}
 use Rattle.dimension.specs.Sizes.{isDimension, greatestDepth, codeLength, pointsLength}
-use Rattle.bisection.specs.Cells.{cellOf, cellBytes}
+use Rattle.bisection.specs.Cells.{cellOf, pointBytes, cellBytes}
 use Rattle.bisection.specs.Codes.{codeOf, dimensionOf, depthOf}
 use Rattle.bisection.specs.Refusals.{done, codeRefusal, isRoot, isPath}
 use Rattle.bisection.specs.Theorems.Ladders.{first-is, all-hold, holds, past}
@@ -23,7 +24,11 @@ use Rattle.codes.specs.Writing.{done-writes, done-answers}
 use Rattle.crossing.specs.Outcome.{crossed, wall}
 use Rattle.sheets.specs.Sheets.{sheetMark, sampleWidth, GoodSheet, good}
 use Rattle.listing.specs.Texts.{Listing}
-use Rattle.demands.specs.Rows.{Row, path-to-code, vertices, code-check, child-at, cross, walled, sheet-check, listing, Answered, Holds, Every}
+use Rattle.points.specs.Points.{pointOf, isPoint}
+use Rattle.greys.specs.Samples.{greySum}
+use Rattle.greys.specs.Exact.{fraction-same, whole-fraction}
+use Rattle.queries.specs.Queries.{sideIn, LeafAt, LeafWeights, samplesOf, weightsLength, leafRefusal, Good, leafTold, sheet-good, leaf-found, value-found}
+use Rattle.demands.specs.Rows.{Row, path-to-code, vertices, code-check, child-at, cross, walled, sheet-check, listing, leaf-at, value-at, Answered, Holds, Every}
 
 -- a root and a path that are not refused, and their code
 pub record PathShown (root path code : List ℕ) : Type 0 where
@@ -59,6 +64,23 @@ pub record WallShown (code : List ℕ) (i : ℕ) : Type 0 where
   pub facet : leb i (dimensionOf code) ≡ true
   pub blocked : isBlocked code i ≡ true
 
+-- a good sheet, a point of the cube, the leaf there and its weights
+pub record LeafShown (sheet point : List ℕ) (number : ℕ) (weights : List ℕ) : Type 0 where
+  pub count : ℕ
+  pub good-sheet : Good sheet count
+  pub passes : isPoint (good-sheet .dimension) point ≡ true
+  pub leaf : LeafAt (good-sheet .cells) (pointOf point) number
+  pub weighs : LeafWeights (good-sheet .cells) number (pointOf point) weights
+  pub size : length (pointBytes weights) ≡ weightsLength (good-sheet .dimension)
+
+-- and the sum of the weights times the samples, a multiple of the side
+pub record ValueShown (sheet point : List ℕ) (value : ℕ) : Type 0 where
+  pub number : ℕ
+  pub weights : List ℕ
+  pub leaf-shown : LeafShown sheet point number weights
+  pub small : value ≤ 2 ^ 53
+  pub sum : value * sideIn (leaf-shown .good-sheet .cells) number ≡ greySum sampleWidth weights (samplesOf (leaf-shown .good-sheet .records) number)
+
 unfoldable pub Shown : Row → Type 0
 Shown (path-to-code root path code) = PathShown root path code
 Shown (vertices code points) = CellShown code points
@@ -68,6 +90,8 @@ Shown (cross code facet answer place) = CrossShown code facet answer place
 Shown (walled code facet) = WallShown code facet
 Shown (sheet-check sheet records) = GoodSheet sheetMark sampleWidth sheet records
 Shown (listing sheet text) = Listing sheet text
+Shown (leaf-at sheet point number weights) = LeafShown sheet point number weights
+Shown (value-at sheet point value) = ValueShown sheet point value
 
 path-row : {root path code : List ℕ} → PathShown root path code → Answered (PathToCode root path) code
 unfolding Answered pathRefusal
@@ -126,6 +150,17 @@ wall-row {code} {i} a before = record {
     il : i ≤ dimensionOf code
     il = leb-true i (dimensionOf code) (a .facet)
 
+leaf-row : {sheet point : List ℕ} {number : ℕ} {weights : List ℕ} → LeafShown sheet point number weights → Holds (leaf-at sheet point number weights)
+unfolding Holds leafRefusal
+leaf-row {sheet} {point} {number} {weights} a before room = sheet-good (a .good-sheet) (leaf-found
+    (first-is (holds (a .passes) (holds (le-leb (weightsLength (a .good-sheet .dimension)) (length before) (omega (arith, a .size))) all-hold)))
+    (a .leaf) (a .weighs) (ap (leafTold done 0 number) (a .size)) (ap (λ (n : ℕ). pointBytes weights ++ drop n before) (a .size)))
+
+value-row : {sheet point : List ℕ} {value : ℕ} → ValueShown sheet point value → Holds (value-at sheet point value)
+unfolding Holds
+value-row {value = value} a = let b = a .leaf-shown in
+    sheet-good (b .good-sheet) (value-found (b .passes) (b .leaf) (b .weighs) (fraction-same (omega arith) (a .sum ∙ sym (mul-one (greySum sampleWidth (a .weights) (samplesOf (b .good-sheet .records) (a .number))))) (whole-fraction (a .small))) refl)
+
 row : (r : Row) → Shown r → Holds r
 unfolding Shown Holds
 row (path-to-code root path code) a = path-row a
@@ -136,6 +171,8 @@ row (cross code facet answer place) a = cross-row a
 row (walled code facet) a = wall-row a
 row (sheet-check sheet records) a = good a refl
 row (listing sheet text) a = λ before. record { text = text; listing = a; length-is = refl; front = refl }
+row (leaf-at sheet point number weights) a = leaf-row a
+row (value-at sheet point value) a = value-row a
 
 unfoldable pub EveryShown : List Row → Type 0
 EveryShown [] = Unit {0}

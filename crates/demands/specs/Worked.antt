@@ -2,7 +2,7 @@
 use mathlib.Core.Path.{refl}
 use mathlib.Core.List.{List, [], _∷_}
 use lib.ListN.{replicate}
-use Rattle.dimension.specs.Sizes.{isDimension, halvings, cubeSide, greatestDepth, level, splitPlace, boxDepth, codeLength, pointsLength}
+use Rattle.dimension.specs.Sizes.{isDimension, halvings, cubeSide, sideAfter, greatestDepth, level, splitPlace, boxDepth, boxSide, codeLength, pointsLength}
 use native.Mathlib.Omega.{arith}
 use Rattle.bisection.specs.Cells.{midpoint, child, moved, corners, rootCell, cellBelow, cellOf, pointBytes, cellBytes}
 use Rattle.bisection.specs.Codes.{minus, axis, negated, turned, stepped, high, minusOn, orthantTo, orthant, step, nameBelow, nameOf, bytes, codeOf, dimensionOf, depthOf, entriesOf, orthantsOf, partsOf}
@@ -15,8 +15,13 @@ use Rattle.bisection.specs.Theorems.Table.{move, newAt, exchanged, negatedAt, e
 use Rattle.listing.specs.Texts.{digit, spelled, decimal, hex, numberLine, leafLine, leafLines, goodText, refusedText}
 use Rattle.listing.specs.Texts.{good as good-listing}
 use Rattle.demands.specs.TwoLeaves.{twoLeaves, twoLeavesText, oneLeaf, two-leaves, one-leaf-listed, too-large-listed}
-use Rattle.demands.specs.Rows.{Row, path-to-code, vertices, code-check, child-at, cross, walled, sheet-check, listing, Every}
-use Rattle.demands.specs.Shown.{Shown, EveryShown, every}
+use Rattle.demands.specs.Rows.{Row, path-to-code, vertices, code-check, child-at, cross, walled, sheet-check, listing, leaf-at, value-at, Every}
+use Rattle.points.specs.Weights.{sumTo}
+use Rattle.points.specs.Points.{pointOf, isPoint}
+use Rattle.greys.specs.Samples.{greySum, sampleAt, lowFirst}
+use Rattle.queries.specs.Queries.{samplesOf}
+use Rattle.demands.specs.PointTen.{weightsTen, ten-weighs, ten-leaf}
+use Rattle.demands.specs.Shown.{LeafShown, Shown, EveryShown, every}
 
 unfoldable pub table : List Row
 table =
@@ -50,13 +55,19 @@ table =
     code-check (0x02 ∷ 0x00 ∷ 0x01 ∷ 0x82 ∷ []) refusedSign ∷
     code-check (0x02 ∷ 0x01 ∷ 0x01 ∷ 0x82 ∷ []) done ∷
     child-at (0x02 ∷ 0x00 ∷ 0x02 ∷ 0x01 ∷ []) 1 (0x02 ∷ 0x01 ∷ 0x01 ∷ 0x82 ∷ []) ∷
-    -- P10's sheet
+    -- P10: its sheet, and at (1024,1024) record 0, the weights 3072, 0, 1024 and the value 20
     sheet-check twoLeaves 2 ∷
     listing twoLeaves twoLeavesText ∷
+    leaf-at twoLeaves (0x00 ∷ 0x04 ∷ 0x00 ∷ 0x04 ∷ []) 0 (3072 ∷ 0 ∷ 1024 ∷ []) ∷
+    value-at twoLeaves (0x00 ∷ 0x04 ∷ 0x00 ∷ 0x04 ∷ []) 20 ∷
     -- its first 12 bytes: "refused 14 at 12"; and one byte too many: "refused 15 at 0"
     listing oneLeaf (0x72 ∷ 0x65 ∷ 0x66 ∷ 0x75 ∷ 0x73 ∷ 0x65 ∷ 0x64 ∷ 0x20 ∷ 0x31 ∷ 0x34 ∷ 0x20 ∷ 0x61 ∷ 0x74 ∷ 0x20 ∷ 0x31 ∷ 0x32 ∷ 0x0A ∷ []) ∷
     listing (replicate 65537 0x43) (0x72 ∷ 0x65 ∷ 0x66 ∷ 0x75 ∷ 0x73 ∷ 0x65 ∷ 0x64 ∷ 0x20 ∷ 0x31 ∷ 0x35 ∷ 0x20 ∷ 0x61 ∷ 0x74 ∷ 0x20 ∷ 0x30 ∷ 0x0A ∷ []) ∷
     []
+
+ten : LeafShown twoLeaves (0x00 ∷ 0x04 ∷ 0x00 ∷ 0x04 ∷ []) 0 weightsTen
+unfolding two-leaves isPoint pointOf each pointBytes cubeSide halvings
+ten = record { count = 2; good-sheet = two-leaves; passes = refl; leaf = ten-leaf; weighs = ten-weighs; size = refl }
 
 -- the claim
 pub worked : Every table
@@ -65,6 +76,7 @@ unfolding EveryShown Shown table codeOf bytes nameOf nameBelow step stepped turn
     lengthOf bodyRefusal firstRefusal each fresh permutes orthantsFit ownMinus signsOwn dimensionOf depthOf entriesOf orthantsOf partsOf isRoot isPath pointBytes
     cellBytes pointsLength rootOf pathOf rootTo pathTo parentName lastStep unturned unstepped fewer move newAt exchanged negatedAt entriesBy flipped runsOut carried
     orthantsBy blockedBy nextOwn moveOf blocked acrossName newPlace digit spelled decimal hex numberLine leafLine leafLines goodText refusedText two-leaves
+    ten greySum sampleAt lowFirst sumTo samplesOf boxSide sideAfter
 worked = every table (
   record { dimension = refl; depth = refl; good = refl; steps = refl; is = refl },
   (
@@ -109,7 +121,7 @@ worked = every table (
                                           record { passes = refl; step = refl; deeper = refl; is = refl },
                                           (
                                             two-leaves,
-                                            (good-listing (omega arith) two-leaves, (one-leaf-listed, (too-large-listed, tt))),
+                                            (good-listing (omega arith) two-leaves, (ten, (record { number = 0; weights = weightsTen; leaf-shown = ten; small = omega arith; sum = refl }, (one-leaf-listed, (too-large-listed, tt))))),
                                           ),
                                         ),
                                       ),

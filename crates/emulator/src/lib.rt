@@ -5,9 +5,12 @@ ghost use Rattle.bisection.specs.Refusals.{codeRefusal};
 ghost use Rattle.codes.specs.Outcomes.{PathToCode, CodeToPath, Vertices, Child, Parent};
 ghost use Rattle.crossing.specs.Outcome.{Crosses};
 ghost use Rattle.sheets.specs.Sheets.{SheetIs};
+ghost use Rattle.queries.specs.Queries.{LeafIs, FlatValueIs};
 use codes::PathWritten;
 use codes::Written;
 use crossing::Crossed;
+use greys::ValueAnswer;
+use queries::LeafAnswer;
 use sheets::SheetAnswer;
 
 #[no_mangle]
@@ -64,4 +67,18 @@ pub extern "C" fn rmk_sheet_check(sheet: &[u8]) -> SheetAnswer
     ensures { λ r. ⌜ SheetIs (now (sheet .entry)) r ⌝ }
 {
     sheets::sheet_check(sheet)
+}
+
+#[no_mangle]
+pub extern "C" fn rmk_leaf_at(sheet: &[u8], point: &[u8], weights: &mut [u8]) -> LeafAnswer
+    ensures { λ r. ⌜ LeafIs (now (sheet .entry)) (now (point .entry)) (now (weights .entry)) r (now (weights .exit)) ⌝ }
+{
+    queries::leaf_at(sheet, point, weights)
+}
+
+#[no_mangle]
+pub extern "C" fn rmk_value_at(sheet: &[u8], point: &[u8]) -> ValueAnswer
+    ensures { λ r. ⌜ FlatValueIs (now (sheet .entry)) (now (point .entry)) r ⌝ }
+{
+    greys::flat(queries::value_at(sheet, point))
 }

@@ -10,7 +10,7 @@ use lib.Seq.{drop-cons}
 use borrow.Author.Tests.{lt-ltb, le-ltb}
 use Rattle.io.specs.Digits.{glyph, digits, Fewest}
 use Rattle.listing.specs.Texts.{digit, spelled, decimal, hex}
-use Rattle.listing.specs.Putting.{Putting, putting-start, putting-next, putting-end, put-two, Puts}
+use Rattle.common.specs.Putting.{Putting, putting-start, putting-next, putting-end, put-two, Puts}
 
 -- ten times a power
 tenfold : (k : ℕ) → 10 ^ suc k ≡ 10 ^ k * 10

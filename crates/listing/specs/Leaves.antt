@@ -17,9 +17,9 @@ use Rattle.sheets.specs.Sheets.{behindMark, bodyLength, recordLength, recordRef
 use Rattle.sheets.specs.Steps.{PartsAre}
 use Rattle.sheets.specs.StepLaws.{part-all}
 use Rattle.sheets.specs.Theorems.Listing.{GoodCell, code-of-cell, Listed, listed-none, listed-more, recordOf, record-passes, record-code, record-rest, record-read, IsRecord, CellsIn, cells-none, cells-more, records-listed, leaves-cells}
-use Rattle.sheets.specs.Theorems.Good.{good-some}
+use Rattle.sheets.specs.Theorems.FirstRecord.{good-listed}
 use Rattle.listing.specs.Texts.{sheetLimit, decimal, hex, space, newline, leafLine, leafLines, goodText}
-use Rattle.listing.specs.Putting.{Puts, Putting, putting-start, putting-next, putting-end}
+use Rattle.common.specs.Putting.{Puts, Putting, putting-start, putting-next, putting-end}
 use Rattle.listing.specs.Digits.{decimal-short, hex-length}
 
 -- a sheet that is listed, its samples wide enough that a line is no longer than two records, and room behind n cells
@@ -61,28 +61,6 @@ module _ (mark : List ℕ) (width : ℕ) (two : length mark ≡ 2) (wide : 2 ≤
   few-records : {cs : List TreeCell} {s : List ℕ} → Listed mark width cs s → length cs ≤ length s
   few-records listed-none = omega arith
   few-records (listed-more {c = c} {rest = rest} g samples z e l) = omega (arith, ap length e, record-length mark c samples rest, few-records l)
-
-module _ {mark : List ℕ} {width : ℕ} {sheet : List ℕ} {records : ℕ} (good : GoodSheet mark width sheet records) where
-  cells-in : CellsIn (good .dimension) (good .cells)
-  cells-in = leaves-cells (good .dimension) (good .is-dimension) (good .leaves)
-
-  pub good-listed : Listed mark width (good .cells) sheet
-  good-listed = records-listed cells-in (good .records)
-
-  -- the first record passes its own tests, and is of the sheet's dimension
-  pub record First : Type 0 where
-    pub passes : recordRefusal mark width sheet ≡ done
-    pub dimension-is : (p : RecordParts) → PartsAre mark width sheet p → p .dimension ≡ good .dimension
-
-  pub first-record : First
-  first-record = go (good-some good) cells-in good-listed refl
-    where
-      go : {cs : List TreeCell} {s : List ℕ} → 0 < length cs → CellsIn (good .dimension) cs → Listed mark width cs s → sheet ≡ s → First
-      go h cells-none listed-none i = absurd (omega arith)
-      go h (cells-more k q m) (listed-more {c = c} {rest = rest} g samples z e′ l) i = let e = i ∙ e′ in record {
-        passes = rw e (record-passes mark width c g samples rest z);
-        dimension-is = λ p are. are .dimension-is ∙ sym (front-code-dimension (behindMark mark sheet)) ∙ ap (λ (s : List ℕ). frontDimension (frontCode (behindMark mark s))) e ∙ ap frontDimension (record-code mark width c g samples rest z) ∙ front-root (code-of-cell g) ∙ q;
-      }
 
 module _ (mark : List ℕ) (width : ℕ) {sheet : List ℕ} {records : ℕ} (two : length mark ≡ 2) (wide : 2 ≤ width) (g : GoodSheet mark width sheet records) (h : length sheet ≤ sheetLimit) where
   pub good-few : records ≤ sheetLimit

@@ -4,7 +4,6 @@ pub mod Texts
 -- Two outcomes that the contract allows are equal.
 pub mod Determined
 -- What the proofs of the functions use.
-pub mod Putting
 pub mod Digits
 pub mod Lines
 pub mod Leaves

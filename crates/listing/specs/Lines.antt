@@ -5,7 +5,7 @@ use Prim.Native.Nat.{ℕ, _+_, _*_, _≤_, _<_}
 use native.Mathlib.Omega.{arith}
 use lib.ListN.{length, length-append}
 use Rattle.listing.specs.Texts.{sheetLimit, decimal, hex, space, newline, refusedWord, atWord, numberLine, leafLine, refusedText}
-use Rattle.listing.specs.Putting.{Puts, puts-more, puts-fits}
+use Rattle.common.specs.Putting.{Puts, puts-more, puts-fits}
 use Rattle.listing.specs.Digits.{decimal-short, hex-length}
 
 -- a word, a number and the line's end

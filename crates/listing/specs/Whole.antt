@@ -12,7 +12,7 @@ use Rattle.sheets.specs.declared.Edition.{Edition}
 use Rattle.sheets.specs.Steps.{markOf, IsFirst}
 use Rattle.sheets.specs.Theorems.Good.{same-axes}
 use Rattle.listing.specs.Texts.{dimWord, leavesWord, numberLine, leafLines, goodText, Listing, Lists}
-use Rattle.listing.specs.Putting.{put, Puts, puts-more, puts-length}
+use Rattle.common.specs.Putting.{put, Puts, puts-more, puts-length}
 use Rattle.listing.specs.Digits.{decimal-short}
 use Rattle.listing.specs.Lines.{number-length}
 use Rattle.listing.specs.Leaves.{RoomFor, PutsLeaves, PutsGood, good-few}

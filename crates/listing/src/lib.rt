@@ -7,7 +7,7 @@ ghost use lib.ListN.{length, take};
 ghost use Rattle.sheets.specs.Sheets.{GoodSheet};
 ghost use Rattle.sheets.specs.Steps.{markOf};
 ghost use Rattle.listing.specs.Texts.{sheetLimit, refusedText, Lists};
-ghost use Rattle.listing.specs.Putting.{Puts};
+ghost use Rattle.common.specs.Putting.{Puts};
 ghost use Rattle.listing.specs.Leaves.{PutsLeaves, PutsGood, RoomFor};
 use bisection::DONE;
 use sheets::Edition;

@@ -4,7 +4,7 @@ ghost use mathlib.Core.List.{_++_};
 ghost use Prim.Native.Nat.{_+_, _*_, _≤_, _<_};
 ghost use lib.ListN.{length};
 ghost use Rattle.listing.specs.Texts.{decimal as Texts·decimal, hex as Texts·hex, digit as Texts·digit, leafLine, numberLine};
-ghost use Rattle.listing.specs.Putting.{Puts};
+ghost use Rattle.common.specs.Putting.{Puts};
 
 // Puts bytes.
 pub fn put(out: &mut [u8], at: usize, bytes: &[u8]) -> usize

@@ -11,5 +11,4 @@ pub mod Digits
 pub mod Matching
 pub mod Climbing
 pub mod Going
-pub mod RootTable
 pub mod Starts

@@ -9,13 +9,13 @@ use lib.ListN.{length, getD, drop, replicate}
 use lib.Pow.{pow-pos}
 use Rattle.dimension.specs.Sizes.{axesOf, isDimension, greatestDepth, halvings, rootCount}
 use Rattle.dimension.specs.declared.Dim.{Dim}
-use Rattle.dimension.specs.Laws.{at-root, axes-dimension}
+use Rattle.dimension.specs.Laws.{at-root, axes-dimension, count-some}
 use Rattle.bisection.specs.Roots.{roots}
 use Rattle.bisection.specs.Codes.{axis, orthant}
 use Rattle.bisection.specs.Theorems.Paths.{plain-minus}
 use Rattle.bisection.specs.Theorems.Passing.{orthant-only}
 use Rattle.entries.specs.Masks.{high-none}
-use Rattle.entries.specs.Walks.{placeIn}
+use Rattle.entries.specs.Walks.{placeIn, place-under, place-within}
 use Rattle.positions.specs.Positions.{startOf}
 use Rattle.positions.specs.RootNumbers.{roots-good, roots-length, roots-count}
 use Rattle.fours.specs.declared.Four.{Four}
@@ -24,7 +24,6 @@ use Rattle.next.specs.declared.Next.{Next}
 use Rattle.next.specs.Paths.{steps, number, start-number}
 use Rattle.next.specs.Names.{nameAt, allBoxes, Rooted, rooted-range, rooted-some, name-passes-at}
 use Rattle.next.specs.Digits.{digits-none}
-use Rattle.next.specs.RootTable.{firstRow, rootDigit, row-is}
 use Rattle.next.specs.Nexts.{nextOf, Stands, FirstIs}
 
 -- the entries of a list, filled up with zeros
@@ -71,20 +70,19 @@ module _ (d n : ℕ) (dim : isDimension d ≡ true) where
         all : halvings ≡ halvings - 0
         all = omega arith
 
--- the four entries of the root's row
-module _ (dim : Dim) (n : ℕ) {f c p : ℕ} (f-is : f ≡ firstRow (axesOf dim)) (c-is : c ≡ rootCount (axesOf dim)) (p-is : p ≡ placeIn n c) where
-  pub first-is : (e : Four) → e .first ≡ rootDigit (4 * (f + p) + 0) → e .second ≡ rootDigit (4 * (f + p) + 1) → e .third ≡ rootDigit (4 * (f + p) + 2) → e .fourth ≡ rootDigit (4 * (f + p) + 3)
-      → FirstIs (axesOf dim) n (nextOf e 0 0 0)
-  first-is e a b x y = record {
-    first = λ h. root-stands (axesOf dim) n (axes-dimension dim) h e (let l = subst (λ (m : ℕ). n < m) (roots-count (axesOf dim)) h in
-        rw (
-          a ∙ row-is dim n f-is c-is p-is l 0 (omega arith),
-          b ∙ row-is dim n f-is c-is p-is l 1 (omega arith),
-          x ∙ row-is dim n f-is c-is p-is l 2 (omega arith),
-          y
-              ∙ row-is dim n f-is c-is p-is l 3 (omega arith),
-        ) refl);
-  }
+-- the root whose entries are read
+module _ (dim : Dim) (n : ℕ) {c p : ℕ} (c-is : c ≡ rootCount (axesOf dim)) (p-is : p ≡ placeIn n c) where
+  pub root-under : p < rootCount (axesOf dim)
+  root-under = rw (p-is, c-is) (place-within n (rootCount (axesOf dim)) (count-some (axesOf dim)))
+
+  abbrev read : ℕ → ℕ
+  read place = getD (getD (roots (axesOf dim)) p []) place 0
+
+  pub first-is : (e : Four) → e .first ≡ read 0 → e .second ≡ read 1 → e .third ≡ read 2 → e .fourth ≡ read 3 → FirstIs (axesOf dim) n (nextOf e 0 0 0)
+  first-is e x y z u = record { first = λ h. root-stands (axesOf dim) n (axes-dimension dim) h e (rw (x, y, z, u, own h) refl) }
+    where
+      own : n < length (roots (axesOf dim)) → p ≡ n
+      own h = rw (p-is, c-is) (place-under n (rootCount (axesOf dim)) (subst (λ (m : ℕ). n < m) (roots-count (axesOf dim)) h))
 
 -- the running position on the line costs one shift
 pub stands-at : {d : ℕ} {s : Next} {root : List ℕ} {p : List Bool} → Stands d s root p → startOf (greatestDepth d) (steps p) ≡ s .path * 2 ^ (greatestDepth d - s .depth)

@@ -1,7 +1,6 @@
 // The next cell, kept as a code. After a leaf the next one is known before it is read: its bytes are those of the next cell, or
 // of the first one inside it at some depth. It belongs to the code layer: what stands above it sees neither a path nor a byte of
 // a code. A first cell inside has the same entries, and the front of the same orthants: so these are kept for all depths.
-mod roots; // roots.rt: the roots in dictionary order
 
 ghost use mathlib.Core.Path.{_≡_};
 ghost use mathlib.Core.List.{_++_};
@@ -13,6 +12,7 @@ ghost use Rattle.next.specs.Nexts.{entriesOf, MatchIs, ClimbReady, UpIs,
 use dimension::Dim;
 use entries::check;
 use fours::Four;
+use positions::roots;
 
 // The number whose digits, base 16, are all 1: as many as there are halvings.
 const ONES: u64 = 0x1111_1111_1111;
@@ -217,12 +217,12 @@ pub fn after(next: Next, dim: Dim, depth: usize, count: usize) -> Onward
 pub fn first(dim: Dim, n: usize) -> Next
     ensures { λ r. ⌜ FirstIs (axesOf dim) n r ⌝ }
 {
-    let row = roots::first_row(dim) + check::place_in(n, dim.roots());
+    let root = check::place_in(n, dim.roots());
     Next {
-        first: roots::entry(row, 0),
-        second: roots::entry(row, 1),
-        third: roots::entry(row, 2),
-        fourth: roots::entry(row, 3),
+        first: roots::entry(dim, root, 0),
+        second: roots::entry(dim, root, 1),
+        third: roots::entry(dim, root, 2),
+        fourth: roots::entry(dim, root, 3),
         boxes: 0,
         depth: 0,
         path: 0,

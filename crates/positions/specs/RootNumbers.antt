@@ -114,7 +114,7 @@ unfolding axesFrom
 axes-rise a zero = ends
 axes-rise a (suc n) = goes-on (le-refl a) (axes-rise (suc a) n)
 
-axes-length : (a n : ℕ) → length (axesFrom a n) ≡ n
+pub axes-length : (a n : ℕ) → length (axesFrom a n) ≡ n
 unfolding axesFrom
 axes-length a zero = refl
 axes-length a (suc n) = ap suc (axes-length (suc a) n)

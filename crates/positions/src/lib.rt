@@ -1,5 +1,7 @@
 // Cells on the line: where the cell of a code that passes stands. It belongs to the code layer: what stands above it
 // knows a cell by its position alone.
+pub mod roots; // roots.rt: the roots in dictionary order
+
 ghost use mathlib.Core.Path.{_≡_};
 ghost use Prim.Native.Nat.{_+_, _-_, _*_, _^_, _≤_, _<_};
 ghost use lib.ListN.{length};

@@ -19,3 +19,5 @@ pub mod TreeOrder
 pub mod Order
 -- What holds of a good sheet, and what its bytes determine.
 pub mod Good
+-- The first record of a good sheet.
+pub mod FirstRecord

@@ -76,7 +76,7 @@ fn is_marked(edition: Edition, bytes: &[u8]) -> bool
 }
 
 // How many bytes the samples of a record have.
-fn samples_length(width: u8, dimension: u8) -> usize
+pub fn samples_length(width: u8, dimension: u8) -> usize
     ensures { λ r. ⌜ (r ≡ width * suc dimension) × (r ≤ 65536) ⌝ }
 {
     common::size(width) * (common::size(dimension) + 1)

@@ -78,14 +78,14 @@ module _ (d k : ℕ) (vs : Cell) (z : Sized d vs) (kd : k ≤ d) where
   unfolding child m shifted
   child-shifted b = refl
 
-  child0-along : (a j : ℕ) → along (child 0 k vs) a j ≡ row0 k (along vs a) j
+  pub child0-along : (a j : ℕ) → along (child 0 k vs) a j ≡ row0 k (along vs a) j
   child0-along a j = rw child-set (go (ℕ-discrete j k))
     where
       go : Dec (j ≡ k) → coordinate (vertex (set vs k m) j) a ≡ row0 k (along vs a) j
       go (yes e) = rw (row0-at k (along vs a) j e, e, getD-set-same vs k m [] room) (m-at a)
       go (no e) = rw (row0-other k (along vs a) j e, getD-set-other vs k j m [] e) refl
 
-  child1-along : (b a j : ℕ) → along (child (suc b) k vs) a j ≡ row1 k (along vs a) j
+  pub child1-along : (b a j : ℕ) → along (child (suc b) k vs) a j ≡ row1 k (along vs a) j
   child1-along b a j = rw (child-shifted b) (go (order j k))
     where
       go : Order j k → coordinate (vertex (shifted k m vs) j) a ≡ row1 k (along vs a) j

@@ -1,5 +1,5 @@
 -- The laws of a code at the front of bytes: how its head and what stands inside make up the code's refusal, and what becomes of
--- a code that passes where more bytes follow it. The first four open the names for the code layer itself.
+-- a code that passes where more bytes follow it. The first five open the names for the code layer itself.
 use mathlib.Core.Path.{_≡_, refl, sym, ap, _∙_}
 use mathlib.Core.Bool.{true}
 use mathlib.Core.List.{List, _++_}
@@ -12,8 +12,8 @@ use Rattle.dimension.specs.Sizes.{isDimension, codeLength}
 use Rattle.bisection.specs.Codes.{IsCodeOf, dimensionOf, depthOf}
 use Rattle.bisection.specs.Refusals.{done, headRefusal, lengthOf, bodyRefusal, codeRefusal}
 use Rattle.bisection.specs.Theorems.Ladders.{first-is, holds, past, own-last, held-at}
-use Rattle.bisection.specs.Theorems.CodePaths.{length-root}
-use Rattle.codes.specs.Fronts.{frontRefusal, frontDimension, frontLength, frontCode, innerRefusal, Headed}
+use Rattle.bisection.specs.Theorems.CodePaths.{length-root, length-path-of}
+use Rattle.codes.specs.Fronts.{frontRefusal, frontDimension, frontDepth, frontLength, frontCode, innerRefusal, Headed}
 
 pub front-refusal : (bs : List ℕ) → frontRefusal bs ≡ headRefusal bs
 unfolding frontRefusal
@@ -22,6 +22,10 @@ front-refusal bs = refl
 pub front-dimension : (bs : List ℕ) → frontDimension bs ≡ dimensionOf bs
 unfolding frontDimension
 front-dimension bs = refl
+
+pub front-depth : (bs : List ℕ) → frontDepth bs ≡ depthOf bs
+unfolding frontDepth
+front-depth bs = refl
 
 pub front-length : (bs : List ℕ) → frontLength bs ≡ codeLength (dimensionOf bs) (depthOf bs)
 unfolding lengthOf frontLength
@@ -93,6 +97,7 @@ headed-refusal code h = first-is (
 pub record Fronted (code rest : List ℕ) : Type 0 where
   pub refusal : frontRefusal (code ++ rest) ≡ done
   pub dimension : frontDimension (code ++ rest) ≡ frontDimension code
+  pub depth : frontDepth (code ++ rest) ≡ frontDepth code
   pub size : frontLength (code ++ rest) ≡ length code
   pub code-is : frontCode (code ++ rest) ≡ code
   pub inner : innerRefusal code ≡ done
@@ -120,16 +125,24 @@ module _ (code : List ℕ) (e : codeRefusal code ≡ done) where
     along-length = same-length (code ++ rest) code along-dimension along-depth ∙ sym (code-headed .size)
 
     pub code-fronted : Fronted code rest
-    unfolding codeRefusal frontRefusal frontDimension frontCode innerRefusal
+    unfolding codeRefusal frontRefusal frontDimension frontDepth frontCode innerRefusal
     code-fronted = record {
       refusal = same-head (code ++ rest) code along-dimension along-depth ∙ code-headed .head;
       dimension = along-dimension;
+      depth = along-depth;
       size = along-length;
       code-is = ap (λ (n : ℕ). take n (code ++ rest)) along-length ∙ take-at code rest (length code) refl;
       inner = held-at _ tt e 3;
     }
 
--- the dimension is the number of the root's axes
+-- the dimension is the number of the root's axes, the depth that of the path's steps; they give the code its length
 pub front-root : {code root path : List ℕ} → IsCodeOf code root path → frontDimension code ≡ length root
 unfolding frontDimension
 front-root c = sym (length-root c)
+
+pub front-path : {code root path : List ℕ} → IsCodeOf code root path → frontDepth code ≡ length path
+unfolding frontDepth
+front-path c = sym (length-path-of c)
+
+pub code-length : {code root path : List ℕ} → IsCodeOf code root path → codeRefusal code ≡ done → length code ≡ codeLength (length root) (length path)
+code-length {code} c e = code-headed code e .size ∙ front-length code ∙ rw (← length-root c, ← length-path-of c) refl

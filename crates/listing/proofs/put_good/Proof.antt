@@ -1,6 +1,6 @@
 -- `put_good` meets its contract: the dimension, the leaves, and how many they are.
 use mathlib.Core.Path.{refl, _∙_}
-use Rattle.listing.specs.Leaves.{first-record}
+use Rattle.sheets.specs.Theorems.FirstRecord.{first-record}
 use Rattle.listing.specs.Whole.{first-fits, leaves-fit, last-fits, good-puts}
 use borrow.Author.Needs.{needs}
 use Rattle.listing.proofs.put_good.Statement.{statement}

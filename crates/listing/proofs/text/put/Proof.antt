@@ -1,7 +1,7 @@
 -- `put` meets its contract.
 use mathlib.Core.Path.{refl, _∙_}
 use Prim.Native.Nat.{_-_}
-use Rattle.listing.specs.Putting.{put-copy}
+use Rattle.common.specs.Putting.{put-copy}
 use borrow.Author.Needs.{needs}
 use Rattle.listing.proofs.text.put.Statement.{statement}
 use Rattle.listing.proofs.text.put.Tie as tie

@@ -3,7 +3,7 @@ use mathlib.Core.Path.{_∙_, subst}
 use Prim.Native.Nat.{ℕ, _-_}
 use mathlib.Core.List.{List}
 use Rattle.listing.specs.Digits.{decimal-is}
-use Rattle.listing.specs.Putting.{Puts}
+use Rattle.common.specs.Putting.{Puts}
 use borrow.Author.Needs.{needs}
 use Rattle.listing.proofs.text.put_decimal.Statement.{statement}
 use Rattle.listing.proofs.text.put_decimal.Tie as tie

@@ -1,8 +1,11 @@
 // The roots of each dimension in dictionary order, one after the other: four entries each, the last ones 0, as digits of words.
 ghost use mathlib.Core.Path.{_≡_};
+ghost use mathlib.Core.List.{[]};
 ghost use Prim.Native.Nat.{_+_, _*_, _<_};
-ghost use Rattle.dimension.specs.Sizes.{axesOf};
-ghost use Rattle.next.specs.RootTable.{firstRow, rootDigit};
+ghost use lib.ListN.{getD};
+ghost use Rattle.dimension.specs.Sizes.{axesOf, rootCount};
+ghost use Rattle.bisection.specs.Roots.{roots};
+ghost use Rattle.positions.specs.RootTable.{firstRow, rootDigit};
 use dimension::Dim;
 
 const ROOTS: [u64; 8] = [
@@ -17,7 +20,7 @@ const ROOTS: [u64; 8] = [
 ];
 
 // Where the roots of a dimension begin.
-pub fn first_row(dim: Dim) -> usize
+fn first_row(dim: Dim) -> usize
     ensures { λ r. ⌜ r ≡ firstRow (axesOf dim) ⌝ }
 {
     match dim {
@@ -27,12 +30,20 @@ pub fn first_row(dim: Dim) -> usize
     }
 }
 
-// The entry at a place of a row.
-pub fn entry(row: usize, place: usize) -> u8
+// The digit at a place of a row.
+fn digit(row: usize, place: usize) -> u8
     requires { ⌜ (row < 32) × (place < 4) ⌝ }
     ensures { λ r. ⌜ r ≡ rootDigit (4 * row + place) ⌝ }
 {
     let at = 4 * row + place;
     let digit = (ROOTS[at / 16] >> (60 - 4 * (at % 16))) % 16;
     digit as u8
+}
+
+// The entry at a place of root number n, 0 past the last.
+pub fn entry(dim: Dim, n: usize, place: usize) -> u8
+    requires { ⌜ (n < rootCount (axesOf dim)) × (place < 4) ⌝ }
+    ensures { λ r. ⌜ r ≡ getD (getD (roots (axesOf dim)) n []) place 0 ⌝ }
+{
+    digit(first_row(dim) + n, place)
 }

@@ -1,5 +1,5 @@
 -- The table of all roots, four to a word and an entry to a digit, and its rule, computed once.
-use mathlib.Core.Path.{_≡_, refl, ap, _∙_}
+use mathlib.Core.Path.{_≡_, refl}
 use mathlib.Core.Bool.{Bool, true}
 use mathlib.Core.List.{List, [], _∷_}
 use Prim.Native.Nat.{ℕ, zero, suc, _+_, _-_, _*_, _/_, _%_, _^_, _<_}
@@ -10,11 +10,9 @@ use borrow.Author.Tests.{eqb-true}
 use Rattle.dimension.specs.declared.Dim.{Dim}
 use Rattle.dimension.specs.declared.Dim.the-variants.{Two, Three, Four}
 use Rattle.dimension.specs.Sizes.{axesOf, rootCount}
-use Rattle.dimension.specs.Laws.{count-some}
 use Rattle.bisection.specs.Roots.{roots, arrangements, picks, joined, axesFrom}
 use Rattle.bisection.specs.Refusals.{each}
 use Rattle.bisection.specs.Theorems.Checked.{each-at}
-use Rattle.entries.specs.Walks.{placeIn, place-under, place-within}
 
 unfoldable pub rootWords : List ℕ
 rootWords =
@@ -48,18 +46,13 @@ rows-right Two = refl
 rows-right Three = refl
 rows-right Four = refl
 
-row-under : (dim : Dim) (n : ℕ) → n < rootCount (axesOf dim) → firstRow (axesOf dim) + n < 32
+pub row-under : (dim : Dim) (n : ℕ) → n < rootCount (axesOf dim) → firstRow (axesOf dim) + n < 32
 unfolding rootCount
 row-under Two n l = omega arith
 row-under Three n l = omega arith
 row-under Four n l = omega arith
 
--- the row of root n, as the code finds it
-module _ (dim : Dim) (n : ℕ) {f c p : ℕ} (f-is : f ≡ firstRow (axesOf dim)) (c-is : c ≡ rootCount (axesOf dim)) (p-is : p ≡ placeIn n c) where
-  pub row-in : f + p < 32
-  row-in = rw (f-is, p-is, c-is) (row-under dim (placeIn n (rootCount (axesOf dim))) (place-within n (rootCount (axesOf dim)) (count-some (axesOf dim))))
-
-  pub row-is : n < rootCount (axesOf dim) → (place : ℕ) → place < 4 → rootDigit (4 * (f + p) + place) ≡ getD (getD (roots (axesOf dim)) n []) place 0
-  row-is h place l = ap (λ (row : ℕ). rootDigit (4 * row + place)) (rw (f-is, p-is, c-is, place-under n (rootCount (axesOf dim)) h) refl)
-      ∙ eqb-true (rootDigit (4 * (firstRow (axesOf dim) + n) + place)) (getD (getD (roots (axesOf dim)) n []) place 0)
-      (each-at 4 (right (axesOf dim) n) (each-at (rootCount (axesOf dim)) (λ n. each 4 (right (axesOf dim) n)) (rows-right dim) n h) place l)
+pub row-is : (dim : Dim) (n place : ℕ) {row : ℕ} → row ≡ firstRow (axesOf dim) → n < rootCount (axesOf dim) → place < 4
+    → rootDigit (4 * (row + n) + place) ≡ getD (getD (roots (axesOf dim)) n []) place 0
+row-is dim n place e h l = rw e (eqb-true (rootDigit (4 * (firstRow (axesOf dim) + n) + place)) (getD (getD (roots (axesOf dim)) n []) place 0)
+    (each-at 4 (right (axesOf dim) n) (each-at (rootCount (axesOf dim)) (λ n. each 4 (right (axesOf dim) n)) (rows-right dim) n h) place l))

@@ -1,12 +1,12 @@
--- `entry` meets its contract.
+-- `digit` meets its contract.
 use mathlib.Core.Path.{refl}
-use Rattle.next.specs.RootTable.{rootWords, rootDigit}
+use Rattle.positions.specs.RootTable.{rootWords, rootDigit}
 use borrow.Author.Needs.{needs}
-use Rattle.next.proofs.roots.entry.Statement.{statement}
-use Rattle.next.proofs.roots.entry.Tie as tie
+use Rattle.positions.proofs.roots.digit.Statement.{statement}
+use Rattle.positions.proofs.roots.digit.Tie as tie
 
-pub entry-spec : {M : Type 1} → statement M
-entry-spec =
+pub digit-spec : {M : Type 1} → statement M
+digit-spec =
     tie.close
     (tie.spec
     (λ c. search needs)

@@ -1,0 +1,11 @@
+-- `fraction` meets its contract: both numbers are floats, and so is their quotient.
+use Rattle.greys.specs.Exact.{cast-sum, cast-side, divided}
+use Rattle.greys.proofs.fraction.Statement.{statement}
+use Rattle.greys.proofs.fraction.Tie as tie
+
+pub fraction-spec : {M : Type 1} → statement M
+fraction-spec = tie.close
+    (tie.spec
+    (λ c. cast-sum (c .before .pre .0))
+    (λ c. cast-side (c .before .before .pre .1))
+    (λ c. divided (c .before .before .pre .0) (c .before .before .pre .1)))

@@ -1,0 +1,11 @@
+-- Points in cells. A reader must believe Weights, Points and Roots; the rest is checked.
+-- A point in a closed cell, and its weights.
+pub mod Weights
+-- The points of a query.
+pub mod Points
+-- The first root that contains a point.
+pub mod Roots
+-- The weights in closed form: that they are the weights is proved.
+pub mod ClosedForm
+-- What is proved of them.
+pub mod Theorems
