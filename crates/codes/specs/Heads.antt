@@ -1,5 +1,5 @@
 -- The head of a code and the order of refusals, one law for each way out of the code that decides them.
-use mathlib.Core.Path.{_≡_, refl, sym, _∙_}
+use mathlib.Core.Path.{_≡_, refl, sym, ap, _∙_}
 use mathlib.Core.Bool.{Bool, true, false, not, _&&_}
 use mathlib.Core.List.{List}
 use mathlib.Core.Logic.{_≢_}
@@ -48,25 +48,31 @@ module _ {code : List ℕ} (b : Headed code) where
   passes : headRefusal code ≡ done
   passes = sym (front-refusal code) ∙ b .head
 
-  pub ready-dimension : isDimension (dimensionOf code) ≡ true
+  ready-dimension : isDimension (dimensionOf code) ≡ true
   unfolding headRefusal
   ready-dimension = held-at _ tt passes 0
 
-  pub ready-range : Dimension (dimensionOf code)
+  ready-range : Dimension (dimensionOf code)
   ready-range = dimension (dimensionOf code) ready-dimension
 
-  pub ready-depth : depthOf code ≤ greatestDepth (dimensionOf code)
+  ready-depth : depthOf code ≤ greatestDepth (dimensionOf code)
   unfolding headRefusal
   ready-depth = leb-true (depthOf code) (greatestDepth (dimensionOf code)) (held-at _ tt passes 1)
 
+  whole : length code ≡ codeLength (dimensionOf code) (depthOf code)
+  whole = b .size ∙ front-length code
+
   size : length code ≡ 2 + dimensionOf code + boxDepth (dimensionOf code) (depthOf code)
   unfolding codeLength
-  size = b .size ∙ front-length code
+  size = whole
 
-  pub ready-room : 2 + dimensionOf code ≤ length code
+  ready-room : 2 + dimensionOf code ≤ length code
   ready-room = omega (arith, size)
 
-  pub ready-few : length code ≤ 2 + dimensionOf code + halvings
+  pub ready-long : 0 < length code
+  ready-long = omega (arith, ready-room)
+
+  ready-few : length code ≤ 2 + dimensionOf code + halvings
   ready-few = omega (arith, size, box-in (dimensionOf code) (depthOf code) (omega (arith, ready-range .two)) ready-depth)
 
 -- entries that make a permutation have axes with bits
@@ -80,15 +86,38 @@ axes-within code n p small k l = record {
     fit : (i : ℕ) → i < k → (leb 1 (axis (getD (drop 2 code) i 0)) && leb (axis (getD (drop 2 code) i 0)) n) ≡ true
     fit i h = both (leb 1 (axis (getD (drop 2 code) i 0)) && leb (axis (getD (drop 2 code) i 0)) n) (fresh (drop 2 code) (axis (getD (drop 2 code) i 0)) i) (each-at n (entryFits n (drop 2 code)) p i (omega arith)) .0
 
--- the body, one law for each way out, over what the code has found there
-module _ {code : List ℕ} (ready : Headed code) {a n : ℕ} (byte : a ≡ getD code 0 0) (axes : n ≡ a) {permuted : Bool} (tested : permuted ≡ permutes n (drop 2 code)) where
+-- the body's tests, as the code has the first byte
+module _ {code : List ℕ} (ready : Headed code) {n : ℕ} (byte : n ≡ getD code 0 0) where
   is-dimension : n ≡ dimensionOf code
   unfolding dimensionOf
-  is-dimension = axes ∙ byte
+  is-dimension = byte
 
+  pub body-some : 1 ≤ n
+  body-some = omega (arith, is-dimension, ready-range ready .two)
+
+  pub body-few : n ≤ 4
+  body-few = omega (arith, is-dimension, ready-range ready .few)
+
+  pub body-bits : n < 8
+  body-bits = omega (arith, body-few)
+
+  pub body-mask : n ≤ 8
+  body-mask = omega (arith, body-few)
+
+  pub body-room : 2 + n ≤ length code
+  body-room = omega (arith, is-dimension, ready-room ready)
+
+  pub body-most : length code ≤ 2 + n + halvings
+  body-most = omega (arith, is-dimension, ready-few ready)
+
+  pub body-whole : length code ≡ codeLength n (depthOf code)
+  body-whole = rw is-dimension (whole ready)
+
+-- the body, one law for each way out, over what the code has found there
+module _ {code : List ℕ} (ready : Headed code) {n : ℕ} (byte : n ≡ getD code 0 0) {permuted : Bool} (tested : permuted ≡ permutes n (drop 2 code)) where
   permuted-as : permutes (dimensionOf code) (entriesOf code) ≡ permuted
   unfolding entriesOf
-  permuted-as = rw (← is-dimension) (permutes-take n (drop 2 code) ∙ sym tested)
+  permuted-as = rw (← is-dimension ready byte) (permutes-take n (drop 2 code) ∙ sym tested)
 
   pub body-permutation : not permuted ≡ true → refusedPermutation ≡ innerRefusal code
   unfolding bodyRefusal
@@ -100,31 +129,36 @@ module _ {code : List ℕ} (ready : Headed code) {a n : ℕ} (byte : a ≡ getD 
 
     fit-as : orthantsFit (dimensionOf code) (orthantsOf code) ≡ fitting
     unfolding orthantsOf
-    fit-as = rw (← is-dimension) (sym fits)
+    fit-as = rw (← is-dimension ready byte) (sym fits)
 
     pub body-orthant : not fitting ≡ true → refusedOrthant ≡ innerRefusal code
     unfolding bodyRefusal
     body-orthant h = sym (inner-refusal code ∙ first-is (holds permutation (fails (fit-as ∙ not-true fitting h))))
 
-    module _ (u : not fitting ≡ false) {D k own : ℕ} (depth : D ≡ getD code 1 0) (split : k ≡ splitPlace a D) (owned : own ≡ ownByte (drop (2 + n) code)) where
+    module _ (u : not fitting ≡ false) {k : ℕ} (split : k ≡ splitPlace n (depthOf code)) where
       split-is : k ≡ splitPlace (dimensionOf code) (depthOf code)
-      unfolding dimensionOf depthOf
-      split-is = rw (← byte, ← depth) split
+      split-is = split ∙ ap (λ (d : ℕ). splitPlace d (depthOf code)) (is-dimension ready byte)
 
       place : (1 ≤ k) × (k ≤ n)
-      place = omega (arith, split-range (dimensionOf code) (depthOf code) (omega (arith, ready-range ready .two)), split-is, is-dimension)
+      place = rw split (split-range n (depthOf code) (body-some ready byte))
 
       -- the entries that the sign test reads have axes with bits
-      pub body-signs : (1 ≤ k) × (k ≤ 4) × (2 + k ≤ length code) × AxesWithin k code
-      body-signs = (place .0, omega (arith, place .1, is-dimension, ready-range ready .few), omega (arith, place .1, is-dimension, ready-room ready), within)
-        where
-          within : AxesWithin k code
-          within = axes-within code n (sym tested ∙ not-false permuted t) (omega (arith, is-dimension, ready-range ready .few)) k (place .1)
+      pub signs-some : 1 ≤ k
+      signs-some = place .0
 
-      module _ {signed : Bool} (signs : signed ≡ signsBy k (drop 2 code) own) where
+      pub signs-few : k ≤ 4
+      signs-few = omega (arith, place, body-few ready byte)
+
+      pub signs-room : 2 + k ≤ length code
+      signs-room = omega (arith, place, body-room ready byte)
+
+      pub signs-axes : AxesWithin k code
+      signs-axes = axes-within code n (sym tested ∙ not-false permuted t) (body-mask ready byte) k (place .1)
+
+      module _ {own : ℕ} {signed : Bool} (owned : own ≡ ownByte (drop (2 + n) code)) (signs : signed ≡ signsBy k (drop 2 code) own) where
         signs-as : signsOwn (splitPlace (dimensionOf code) (depthOf code)) (entriesOf code) (orthantsOf code) ≡ signed
         unfolding entriesOf orthantsOf
-        signs-as = rw (← split-is, ← is-dimension) (sym (signs-by n k (drop 2 code) (drop (2 + n) code) (place .1)) ∙ rw (← owned) (sym signs))
+        signs-as = rw (← split-is, ← is-dimension ready byte) (sym (signs-by n k (drop 2 code) (drop (2 + n) code) (place .1)) ∙ rw (← owned) (sym signs))
 
         pub body-sign : not signed ≡ true → refusedSign ≡ innerRefusal code
         unfolding bodyRefusal

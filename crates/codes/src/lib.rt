@@ -90,15 +90,14 @@ pub fn code_body(code: &[u8]) -> u8
     requires { ⌜ Headed (now code) ⌝ }
     ensures { λ r. ⌜ r ≡ innerRefusal (now (code .entry)) ⌝ }
 {
-    let dim = Dim::checked(code[0]);
-    let d = dim.axes();
+    let d = common::size(code[0]);
     if !check::permuted(code, 2, d) {
         return REFUSED_PERMUTATION;
     }
     if !check::orthants_fit(code, d) {
         return REFUSED_ORTHANT;
     }
-    let k = dim.split_place(common::size(code[1]));
+    let k = check::split_of(code, d);
     if !check::signs_by(code, k, check::own_byte(code, d)) {
         return REFUSED_SIGN;
     }

@@ -53,9 +53,6 @@ module _ (code : List ℕ) (p : codeRefusal code ≡ done) (i : ℕ) (il : i ≤
   table-size : isBlocked code i ≡ false → length (tableCode code i) ≡ length code
   table-size e = shares-size (beyond e .across .shares)
 
-  pub table-place : isBlocked code i ≡ false → tablePlace code i ≤ dimensionOf code
-  table-place e = beyond e .across .place
-
 -- the ways out, in document 01's order
 module _ (code before : List ℕ) (i : ℕ) {r : Crossed} where
   pub cross-own : {x : ℕ} → x ≡ codeRefusal code → x ≢ done → Bare x r → Crosses code i before r before
@@ -66,8 +63,8 @@ module _ (code before : List ℕ) (i : ℕ) {r : Crossed} where
   }
 
   -- as the code has the code's refusal, its dimension and the facet
-  pub cross-step : {x a d j : ℕ} → x ≡ codeRefusal code → x ≡ done → a ≡ dimensionOf code → d ≡ a → j ≡ i → d < j → Bare refusedStep r → Crosses code i before r before
-  cross-step e z q s t l f = record { own = λ n. absurd (n (sym e ∙ z)); above = λ p m. refuses f; meets = λ p m. absurd (omega arith) }
+  pub cross-step : {x d j : ℕ} → x ≡ codeRefusal code → x ≡ done → d ≡ dimensionOf code → j ≡ i → d < j → Bare refusedStep r → Crosses code i before r before
+  cross-step e z q t l f = record { own = λ n. absurd (n (sym e ∙ z)); above = λ p m. refuses f; meets = λ p m. absurd (omega arith) }
 
   module _ (p : codeRefusal code ≡ done) (il : i ≤ dimensionOf code) where
     met : {after : List ℕ} → Meets code i before r after → Crosses code i before r after

@@ -66,10 +66,6 @@ module _ (code : List ℕ) (p : codeRefusal code ≡ done) where
   unfolding codeLength
   long = omega (arith, k .size)
 
-  pub leaving-low : (t : ℕ) → t < dimensionOf code → 1 ≤ axis (getD code (2 + t) 0)
-  unfolding d
-  leaving-low t h = entry-low t h
-
   some : 0 < dimensionOf code
   some = omega (arith, k .range .two)
 
@@ -127,18 +123,18 @@ module _ (code : List ℕ) (p : codeRefusal code ≡ done) where
       row = unfold move in rw (ne-eqb i (dimensionOf code) (omega (arith, some)), eq-eqb i 0 q, eq-eqb (splitPlace (dimensionOf code) (depthOf code)) (dimensionOf code) s) refl
 
 -- the same as the code has the code's refusal, its dimension and the facet
-module _ (code : List ℕ) {x a n : ℕ} (e : x ≡ codeRefusal code) (z : x ≡ done) (named : a ≡ dimensionOf code) (same : n ≡ a) where
+module _ (code : List ℕ) {x n : ℕ} (e : x ≡ codeRefusal code) (z : x ≡ done) (axes : n ≡ dimensionOf code) where
   p : codeRefusal code ≡ done
   p = sym e ∙ z
-
-  axes : n ≡ dimensionOf code
-  axes = same ∙ named
 
   pub facing-some : 1 ≤ n
   facing-some = omega (arith, some code p, axes)
 
+  pub facing-whole : length code ≡ codeLength n (depthOf code)
+  facing-whole = rw axes (checked code p .size)
+
   -- as the code has the facet, the split place and that the crossing leaves
-  module _ {i j k D t : ℕ} (f : j ≡ i) (deep : D ≡ depthOf code) (split : k ≡ splitPlace a D) (l : t ≡ cond (eqb j 0) k j) (q : t ≡ n)
+  module _ {i j k t : ℕ} (f : j ≡ i) (split : k ≡ splitPlace n (depthOf code)) (l : t ≡ cond (eqb j 0) k j) (q : t ≡ n)
       {at : ℕ} (there : at ≡ cond (eqb j 0) 0 (n - 1)) where
     at-first : j ≡ 0 → at ≡ 0
     at-first z = there ∙ subst (λ (b : Bool). cond b 0 (n - 1) ≡ 0) (sym (eq-eqb j 0 z)) refl
@@ -160,9 +156,6 @@ module _ (code : List ℕ) {x a n : ℕ} (e : x ≡ codeRefusal code) (z : x ≡
     facing-at = omega (arith, place, long code p, axes)
 
     module _ {o : ℕ} (v : o ≡ getD code (2 + at) 0) where
-      pub facing-axis : 1 ≤ axis o
-      facing-axis = rw v (leaving-low code p at (omega (arith, place, axes)))
-
       pub leaving : {y b : ℕ} → y ≡ negated o → b ≡ cond (eqb j 0) y o → Leaving code n at b i
       leaving {y} {b} w u = go (ℕ-discrete j 0)
         where
@@ -173,7 +166,7 @@ module _ (code : List ℕ) {x a n : ℕ} (e : x ≡ codeRefusal code) (z : x ≡
           last z = u ∙ subst (λ (c : Bool). cond c y o ≡ o) (sym (ne-eqb j 0 z)) refl ∙ v ∙ ap (λ (h : ℕ). getD code (2 + h) 0) (at-last z ∙ ap (λ (h : ℕ). h - 1) axes)
 
           start : j ≡ 0 → splitPlace (dimensionOf code) (depthOf code) ≡ dimensionOf code
-          start z = rw (← named, ← deep, ← split) (subst (λ (c : Bool). cond c k j ≡ n) (eq-eqb j 0 z) (sym l ∙ q) ∙ same)
+          start z = ap (λ (d : ℕ). splitPlace d (depthOf code)) (sym axes) ∙ sym split ∙ subst (λ (c : Bool). cond c k j ≡ n) (eq-eqb j 0 z) (sym l ∙ q) ∙ axes
 
           go : Dec (j ≡ 0) → Leaving code n at b i
           go (yes z) = rw (axes, at-first z) (leaving-far code p i b (sym f ∙ z) (start z) (first z))
@@ -234,9 +227,6 @@ module _ {code : List ℕ} {d at e i : ℕ} (r : Leaving code d at e i) where
 
   pub leaving-facet : i ≤ dimensionOf code
   leaving-facet = omega (arith, r .facet, r .axes)
-
-  pub leaving-axis : 1 ≤ axis (getD code (2 + at) 0)
-  leaving-axis = leaving-low code (r .passes) at (omega (arith, r .place, r .axes))
 
   -- the buffer: the code copied, the sign changed, then the carry
   module _ (out : List ℕ) (v : ℕ) (f : v ≡ negated (getD code (2 + at) 0)) where

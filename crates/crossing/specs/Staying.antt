@@ -29,7 +29,7 @@ use Rattle.fours.specs.Laws.{pasted}
 use Rattle.moves.specs.Rearranging.{ownNext, Rearranges, within, within-is, Movable}
 use Rattle.crossing.specs.declared.Crossed.{Crossed}
 use Rattle.crossing.specs.Outcome.{Crosses}
-use Rattle.crossing.specs.Answers.{Bare, cross-short, cross-done, entries-append, table-place, code-pasted}
+use Rattle.crossing.specs.Answers.{Bare, cross-short, cross-done, entries-append, code-pasted}
 
 pub record Staying (code : List ℕ) (d k i : ℕ) : Type 0 where
   pub passes : codeRefusal code ≡ done
@@ -39,12 +39,12 @@ pub record Staying (code : List ℕ) (d k i : ℕ) : Type 0 where
   pub first : i ≡ 0 → k < d
 
 -- from the numbers that the code computes
-pub staying : (code : List ℕ) {x a d D k i j t : ℕ} → x ≡ codeRefusal code → x ≡ done → a ≡ dimensionOf code → d ≡ a → D ≡ depthOf code → k ≡ splitPlace a D → j ≡ i
+pub staying : (code : List ℕ) {x d k i j t : ℕ} → x ≡ codeRefusal code → x ≡ done → d ≡ dimensionOf code → k ≡ splitPlace d (depthOf code) → j ≡ i
     → j ≤ d → t ≡ cond (eqb j 0) k j → t ≢ d → Staying code d k i
-staying code {x} {a} {d} {D} {k} {i} {j} e z named same deep split f h l w = record {
+staying code {x} {d} {k} {i} {j} e z axes split f h l w = record {
   passes = p;
-  axes = same ∙ named;
-  split = place;
+  axes = axes;
+  split = split ∙ ap (λ (n : ℕ). splitPlace n (depthOf code)) axes;
   inside = omega (arith, last);
   first = λ q. less (start (f ∙ q));
 }
@@ -55,17 +55,14 @@ staying code {x} {a} {d} {D} {k} {i} {j} e z named same deep split f h l w = rec
     start : j ≡ 0 → k ≢ d
     start q v = w (l ∙ subst (λ (c : Bool). cond c k j ≡ d) (sym (eq-eqb j 0 q)) v)
 
-    place : k ≡ splitPlace (dimensionOf code) (depthOf code)
-    place = split ∙ rw (named, deep) refl
-
     two : 2 ≤ d
-    two = omega (arith, same, named, checked code p .range .two)
+    two = omega (arith, axes, checked code p .range .two)
 
     last : j ≢ d
     last v = w (l ∙ subst (λ (c : Bool). cond c k j ≡ d) (sym (ne-eqb j 0 (omega (arith, two)))) v)
 
     less : k ≢ d → k < d
-    less u = omega (arith, place, split-range (dimensionOf code) (depthOf code) (omega (arith, checked code p .range .two)) .1)
+    less u = omega (arith, split, split-range d (depthOf code) (omega (arith, two)) .1)
 
 -- the rows that stay in the box leave the orthants and are never blocked
 module _ (d k i : ℕ) (own : Bool) (m : Name) where
@@ -132,9 +129,6 @@ module _ {code : List ℕ} {d k i : ℕ} (r : Staying code d k i) where
   unfolding blocked m dim
   staying-free = rw row (within-free (dimensionOf code) k i (nextOwn k (partsOf code)) (partsOf code))
 
-  pub staying-small : tablePlace code i ≤ 4
-  staying-small = omega (arith, table-place code (r .passes) i staying-facet staying-free, c .range .few)
-
   -- the code's entries by value
   es : List ℕ
   es = m .entries
@@ -177,9 +171,6 @@ module _ {code : List ℕ} {d k i : ℕ} (r : Staying code d k i) where
         unfolding newPlace dim m
         there = s .new (dimensionOf code) ∙ rw (same-row, row, ← r .split) refl
 
-        pub staying-byte : place < 256
-        staying-byte = omega (arith, there, staying-small)
-
         entries : take d rs ≡ entriesBy dim k (within k i (nextOwn k m)) es
         unfolding dim
         entries = ap (take d) (s .entries dim ∙ rw (same-row, held) (entries-append allows (range .0) (range .1) es (drop d noEntries) sized))
@@ -202,6 +193,7 @@ module _ {code : List ℕ} {d k i : ℕ} (r : Staying code d k i) where
     held = record { signed = rw (r .axes) (c .good .passes .signed); is = held q };
     two = staying-two;
     split = range .0;
+    most = rw (r .axes) (range .1);
     inside = rw f (r .inside);
     first = λ z. r .first (sym f ∙ z);
   }

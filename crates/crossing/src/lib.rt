@@ -11,6 +11,7 @@ use bisection::REFUSED_FACE;
 use bisection::REFUSED_SHORT;
 use bisection::REFUSED_STEP;
 use entries::check;
+use fours::words;
 use steps::buffers;
 
 // The answer: the place of the new vertex, and how many bytes of the code across stand at the buffer's front.
@@ -43,7 +44,7 @@ fn cross_inside(code: &[u8], d: usize, k: usize, facet: u8, out: &mut [u8]) -> C
     }
     let i = common::size(facet);
     let moved = moves::rearranged(
-        fours::entries_of(code, 2, d),
+        words::entries_in(code, d),
         d,
         k,
         i,
@@ -53,7 +54,7 @@ fn cross_inside(code: &[u8], d: usize, k: usize, facet: u8, out: &mut [u8]) -> C
     fours::write(moved.entries, d, out, 2);
     Crossed {
         refusal: DONE,
-        place: moved.place as u8,
+        place: moved.place,
         length,
     }
 }
@@ -90,13 +91,12 @@ pub fn cross(code: &[u8], facet: u8, out: &mut [u8]) -> Crossed
     if refusal != DONE {
         return refused(refusal);
     }
-    let dim = check::dimension_of(code);
-    let d = dim.axes();
+    let d = check::axes_of(code);
     let i = common::size(facet);
     if d < i {
         return refused(REFUSED_STEP);
     }
-    let k = dim.split_place(check::depth_of(code));
+    let k = check::split_of(code, d);
     // across facet d, and across facet 0 at the start of a level
     if moves::either(i == 0, k, i) == d {
         let at = moves::either(i == 0, 0, d - 1);

@@ -1,11 +1,12 @@
 -- What a check that passes tells.
 use mathlib.Core.Path.{_≡_, ap, _∙_}
 use mathlib.Core.List.{List}
-use Prim.Native.Nat.{ℕ, _+_, _-_, _≤_}
+use Prim.Native.Nat.{ℕ, _+_, _-_, _*_, _≤_}
+use native.Mathlib.Nat.{mul-comm}
 use native.Mathlib.Omega.{arith}
-use lib.ListN.{length, length-append}
-use Rattle.dimension.specs.Sizes.{codeLength, longestOfAll, boxDepth}
-use Rattle.dimension.specs.Laws.{Dimension, dimension, code-longest}
+use lib.ListN.{length, getD, length-append}
+use Rattle.dimension.specs.Sizes.{codeLength, longestOfAll, boxDepth, splitPlace}
+use Rattle.dimension.specs.Laws.{Dimension, dimension, code-longest, depth-parts, split-range}
 use Rattle.bisection.specs.Codes.{bytes, dimensionOf, depthOf, partsOf}
 use Rattle.bisection.specs.Refusals.{done, codeRefusal}
 use Rattle.bisection.specs.Theorems.Checked.{Good, good}
@@ -33,3 +34,28 @@ code-few {code} k = omega (arith, k .size, code-longest (dimensionOf code) (dept
 pub checked-two : (code : List ℕ) → codeRefusal code ≡ done → 2 ≤ length code
 unfolding codeLength
 checked-two code e = omega (arith, checked code e .size)
+
+-- a code's length tells its boxes, and they and its depth the split place
+pub record Split (d D n k : ℕ) : Type 0 where
+  pub long : 2 + d ≤ n
+  pub under : d * (n - 2 - d) ≤ D
+  pub few : D - d * (n - 2 - d) ≤ d
+  pub is : d - (D - d * (n - 2 - d)) ≡ k
+
+split-by-length : (d D n : ℕ) → (1 ≤ d) × (n ≡ codeLength d D) → Split d D n (splitPlace d D)
+unfolding codeLength
+split-by-length d D n r = record { long = omega arith; under = rw boxes (omega (arith, parts)); few = rw boxes (omega (arith, parts)); is = rw boxes (omega (arith, parts, range)) }
+  where
+    boxes : n - 2 - d ≡ boxDepth d D
+    boxes = omega arith
+
+    parts : d * boxDepth d D + (d - splitPlace d D) ≡ D
+    parts = rw (mul-comm d (boxDepth d D)) (depth-parts d D (r .0))
+
+    range : splitPlace d D ≤ d
+    range = split-range d D (r .0) .1
+
+-- as the code reads the depth
+pub split-read : (code : List ℕ) (d : ℕ) → (1 ≤ d) × (length code ≡ codeLength d (depthOf code)) → {D : ℕ} → D ≡ getD code 1 0 → Split d D (length code) (splitPlace d (depthOf code))
+unfolding depthOf
+split-read code d r f = rw f (split-by-length d (getD code 1 0) (length code) r)

@@ -10,14 +10,16 @@ use lib.Dec.{T}
 use mir.Syntax.{w8}
 use mir.Val.{SFits, Fits, toZ, ofZ}
 use mir.ValLaws.{toZ-ofZ, toZ-pos}
-use borrow.Author.Tests.{le-leb, lt-leb, ltb-true}
+use borrow.Author.Tests.{le-leb, lt-leb, ltb-true, ltb-false}
 use Rattle.bisection.specs.Codes.{axis, minus, negated}
 
 unfoldable pub signedOf : ℕ → ℤ
 signedOf e = cond (minus e) (negℤ (pos (axis e))) (pos (axis e))
 
+-- with a minus for 0, which no axis is
 unfoldable pub byteOf : ℤ → ℕ
-byteOf (pos n) = n
+byteOf (pos zero) = 128
+byteOf (pos (suc n)) = suc n
 byteOf (negsuc n) = 128 + suc n
 
 pub signed-plus : (e : ℕ) → e < 128 → signedOf e ≡ pos e
@@ -28,21 +30,14 @@ pub signed-minus : (e : ℕ) → 128 ≤ e → signedOf e ≡ negℤ (pos (e - 1
 unfolding signedOf minus axis
 signed-minus e h = rw (le-leb 128 e h) refl
 
--- the negation of an entry is that of its number
-pub byte-negated : (e : ℕ) → e < 256 → 1 ≤ axis e → byteOf (negℤ (signedOf e)) ≡ negated e
-byte-negated e h l = go (decLe 128 e) l
+-- the negation of a plus entry is that of its number
+pub byte-negated : (e : ℕ) → e < 128 → byteOf (negℤ (signedOf e)) ≡ negated e
+unfolding negated minus
+byte-negated e h = rw (signed-plus e h, lt-leb 128 e h) (plus e)
   where
-    plus : (n : ℕ) → 1 ≤ n → byteOf (negℤ (pos n)) ≡ n + 128
-    plus zero q = absurd (omega arith)
-    plus (suc n) q = unfold byteOf in omega arith
-
-    back : (n : ℕ) → byteOf (negℤ (negℤ (pos n))) ≡ n
-    back zero = unfold byteOf in refl
-    back (suc n) = unfold byteOf in refl
-
-    go : Dec (128 ≤ e) → 1 ≤ axis e → byteOf (negℤ (signedOf e)) ≡ negated e
-    go (yes q) l = unfold axis minus negated in rw (signed-minus e q, le-leb 128 e q) (back (e - 128))
-    go (no q) l = unfold axis minus negated in let t : e < 128 = omega arith in rw (signed-plus e t, lt-leb 128 e t) (plus e (rw (lt-leb 128 e t) at l))
+    plus : (n : ℕ) → byteOf (negℤ (pos n)) ≡ n + 128
+    plus zero = unfold byteOf in refl
+    plus (suc n) = unfold byteOf in omega arith
 
 pub signed-fits : (e : ℕ) → e < 256 → SFits w8 (signedOf e)
 signed-fits e h = go (decLe 128 e)
@@ -63,37 +58,38 @@ module _ (x : ℤ) (f : SFits w8 x) where
   pub negative : pos 0 -ℤ toZ w8 (ofZ w8 x) ≡ negℤ x
   negative = rw held (+ℤ-idl (negℤ x))
 
--- a negative number's entry
-module _ (x : ℤ) (f : SFits w8 x) (g : SFits w8 (negℤ x)) (l : ltZ (toZ w8 (ofZ w8 x)) (pos 0) ≡ true) where
+-- a positive number's entry
+module _ (x : ℤ) (f : SFits w8 x) (l : ltZ (pos 0) (toZ w8 (ofZ w8 x)) ≡ true) where
+  pub plus-byte : (T (nonNeg (toZ w8 (ofZ w8 x))) × Fits w8 (natAbs (toZ w8 (ofZ w8 x)))) × (natAbs (toZ w8 (ofZ w8 x)) ≡ byteOf x)
+  unfolding byteOf
+  plus-byte = rw (held x f) (go x f (rw (held x f) at l))
+    where
+      go : (x : ℤ) → SFits w8 x → ltZ (pos 0) x ≡ true → (T (nonNeg x) × Fits w8 (natAbs x)) × (natAbs x ≡ byteOf x)
+      go (pos zero) f l = absurd (omega (arith, ltb-true 0 0 l))
+      go (pos (suc n)) f l = ((tt, record { fits = omega (arith, f .sfits) }), refl)
+      go (negsuc n) f l = absurd (subst T (sym l) tt)
+
+-- another's
+module _ (x : ℤ) (f : SFits w8 x) (g : SFits w8 (negℤ x)) (l : ltZ (pos 0) (toZ w8 (ofZ w8 x)) ≡ false) where
   opposite : toZ w8 (ofZ w8 (pos 0 -ℤ toZ w8 (ofZ w8 x))) ≡ negℤ x
   opposite = rw (negative x f) (held (negℤ x) g)
 
   pub minus-size : T (nonNeg (toZ w8 (ofZ w8 (pos 0 -ℤ toZ w8 (ofZ w8 x))))) × Fits w8 (natAbs (toZ w8 (ofZ w8 (pos 0 -ℤ toZ w8 (ofZ w8 x)))))
   minus-size = rw opposite (go x g (rw (held x f) at l))
     where
-      go : (x : ℤ) → SFits w8 (negℤ x) → ltZ x (pos 0) ≡ true → T (nonNeg (negℤ x)) × Fits w8 (natAbs (negℤ x))
-      go (pos zero) g l = absurd (subst T (sym l) tt)
-      go (pos (suc n)) g l = absurd (omega (arith, ltb-true (suc n) 0 l))
+      go : (x : ℤ) → SFits w8 (negℤ x) → ltZ (pos 0) x ≡ false → T (nonNeg (negℤ x)) × Fits w8 (natAbs (negℤ x))
+      go (pos zero) g l = (tt, record { fits = omega arith })
+      go (pos (suc n)) g l = absurd (omega (arith, ltb-false 0 (suc n) l))
       go (negsuc n) g l = (tt, record { fits = omega (arith, g .sfits) })
 
   pub minus-byte : Fits w8 (128 + natAbs (toZ w8 (ofZ w8 (pos 0 -ℤ toZ w8 (ofZ w8 x))))) × (128 + natAbs (toZ w8 (ofZ w8 (pos 0 -ℤ toZ w8 (ofZ w8 x)))) ≡ byteOf x)
   unfolding byteOf
   minus-byte = rw opposite (go x g (rw (held x f) at l))
     where
-      go : (x : ℤ) → SFits w8 (negℤ x) → ltZ x (pos 0) ≡ true → Fits w8 (128 + natAbs (negℤ x)) × (128 + natAbs (negℤ x) ≡ byteOf x)
-      go (pos zero) g l = absurd (subst T (sym l) tt)
-      go (pos (suc n)) g l = absurd (omega (arith, ltb-true (suc n) 0 l))
+      go : (x : ℤ) → SFits w8 (negℤ x) → ltZ (pos 0) x ≡ false → Fits w8 (128 + natAbs (negℤ x)) × (128 + natAbs (negℤ x) ≡ byteOf x)
+      go (pos zero) g l = (record { fits = omega arith }, refl)
+      go (pos (suc n)) g l = absurd (omega (arith, ltb-false 0 (suc n) l))
       go (negsuc n) g l = (record { fits = omega (arith, g .sfits) }, refl)
-
--- another's
-module _ (x : ℤ) (f : SFits w8 x) (l : ltZ (toZ w8 (ofZ w8 x)) (pos 0) ≡ false) where
-  pub plus-byte : (T (nonNeg (toZ w8 (ofZ w8 x))) × Fits w8 (natAbs (toZ w8 (ofZ w8 x)))) × (natAbs (toZ w8 (ofZ w8 x)) ≡ byteOf x)
-  unfolding byteOf
-  plus-byte = rw (held x f) (go x f (rw (held x f) at l))
-    where
-      go : (x : ℤ) → SFits w8 x → ltZ x (pos 0) ≡ false → (T (nonNeg x) × Fits w8 (natAbs x)) × (natAbs x ≡ byteOf x)
-      go (pos n) f l = ((tt, record { fits = omega (arith, f .sfits) }), refl)
-      go (negsuc n) f l = absurd (subst T l tt)
 
 pub plus-value : (e : ℕ) → e < 128 → toZ w8 e ≡ signedOf e
 plus-value e h = toZ-pos w8 e (omega arith) ∙ sym (signed-plus e h)
@@ -137,8 +133,8 @@ module _ (e : ℕ) (h : e < 256) (r : ℤ) (is : r ≡ signedOf e) where
   pub negation-again : SFits w8 (negℤ (toZ w8 (ofZ w8 (pos 0 -ℤ toZ w8 (ofZ w8 r)))))
   negation-again = rw (turned-sign, negℤ-negℤ (signedOf e)) (signed-fits e h)
 
-  pub negation-byte : 1 ≤ axis e → (b : ℕ) → b ≡ byteOf (toZ w8 (ofZ w8 (pos 0 -ℤ toZ w8 (ofZ w8 r)))) → b ≡ negated e
-  negation-byte l b q = q ∙ rw turned-sign (byte-negated e h l)
+  pub negation-byte : e < 128 → (b : ℕ) → b ≡ byteOf (toZ w8 (ofZ w8 (pos 0 -ℤ toZ w8 (ofZ w8 r)))) → b ≡ negated e
+  negation-byte l b q = q ∙ rw turned-sign (byte-negated e l)
 
 -- a minus taken off leaves the axis
 pub negated-minus : (e : ℕ) → 128 ≤ e → e - 128 ≡ negated e

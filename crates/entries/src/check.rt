@@ -5,7 +5,7 @@ ghost use Prim.Native.Nat.{_+_, _-_, _≤_, _<_};
 ghost use lib.ListN.{length, drop};
 ghost use mathlib.Core.Bool.{cond};
 ghost use lib.Dec.{ltb};
-ghost use Rattle.dimension.specs.Sizes.{axesOf, halvings};
+ghost use Rattle.dimension.specs.Sizes.{axesOf, halvings, codeLength, splitPlace};
 ghost use Rattle.bisection.specs.Codes.{axis, minus, high, dimensionOf, depthOf};
 ghost use Rattle.bisection.specs.Refusals.{done, codeRefusal, permutes, orthantsFit, sameSign, isRoot, isPath};
 ghost use Rattle.entries.specs.Walks.{ownByte, signsBy, AxesWithin};
@@ -19,12 +19,29 @@ pub fn dimension_of(code: &[u8]) -> Dim
     Dim::checked(code[0])
 }
 
+// How many axes a code that passes has.
+pub fn axes_of(code: &[u8]) -> usize
+    requires { ⌜ codeRefusal (now code) ≡ done ⌝ }
+    ensures { λ r. ⌜ r ≡ dimensionOf (now (code .entry)) ⌝ }
+{
+    common::size(code[0])
+}
+
 // The depth of a code that passes.
 pub fn depth_of(code: &[u8]) -> usize
     requires { ⌜ codeRefusal (now code) ≡ done ⌝ }
     ensures { λ r. ⌜ r ≡ depthOf (now (code .entry)) ⌝ }
 {
     common::size(code[1])
+}
+
+// The split place of a code of dimension d that has its length: that tells how many boxes there are, so that nothing is divided.
+pub fn split_of(code: &[u8], d: usize) -> usize
+    requires { ⌜ (1 ≤ d) × (length (now code) ≡ codeLength d (depthOf (now code))) ⌝ }
+    ensures { λ r. ⌜ r ≡ splitPlace d (depthOf (now (code .entry))) ⌝ }
+{
+    let boxes = code.len() - 2 - d;
+    d - (common::size(code[1]) - d * boxes)
 }
 
 // The place, or the first one where there are no more than n. A walk that reads a place again instead of ending has one length

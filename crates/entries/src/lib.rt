@@ -38,21 +38,20 @@ pub fn signed_of(e: u8) -> i8
     -a
 }
 
-// A signed number as an entry.
+// A signed number as an entry. No axis is 0: with a minus for it a negation is one flip of a bit, and costs no test.
 pub fn byte_of(x: i8) -> u8
     requires { ⌜ SFits w8 (negℤ x) ⌝ }
     ensures { λ r. ⌜ r ≡ byteOf x ⌝ }
 {
-    if x < 0 {
-        let a = -x;
-        return 128 + (a as u8);
+    if 0 < x {
+        return x as u8;
     }
-    x as u8
+    let a = -x;
+    128 + (a as u8)
 }
 
 // The entry with the other sign.
 pub fn negate(e: u8) -> u8
-    requires { ⌜ 1 ≤ axis e ⌝ }
     ensures { λ r. ⌜ r ≡ negated e ⌝ }
 {
     if 128 <= e {

@@ -5,5 +5,5 @@ pub mod Fours
 pub mod Laws
 -- The orthant of entries, joined from the parts of each.
 pub mod Parts
--- What a crossing does to entries, and entries written to a code.
-pub mod Rows
+-- Entries as one word.
+pub mod Words

@@ -1,6 +1,6 @@
 // Entries by value: four named entries. A dimension with fewer axes leaves the last ones 0. Nothing here branches on a place
 // or on an entry: which step comes is not foreseen, and a branch on it costs more than both sides.
-pub mod rows; // rows.rt: what a crossing does to entries
+pub mod words; // words.rt: entries as one word
 
 ghost use mathlib.Core.Path.{_≡_};
 ghost use mathlib.Core.Bool.{cond};
@@ -101,7 +101,7 @@ pub fn same(a: Four, b: Four) -> bool
 
 // The first n + 1 entries turned left by one place, the one that comes to place n negated.
 pub fn turned_on(e: Four, n: usize) -> Four
-    requires { ⌜ (n < 4) × (1 ≤ axis (e .first)) ⌝ }
+    requires { ⌜ n < 4 ⌝ }
     ensures { λ r. ⌜ four r ≡ turned (suc n) (four e) ⌝ }
 {
     let moved = entries::negate(e.first);
@@ -119,7 +119,7 @@ pub fn turned_on(e: Four, n: usize) -> Four
 
 // The step to a child: child 1 turns the first n + 1 entries.
 pub fn step(e: Four, n: usize, which: u8) -> Four
-    requires { ⌜ (n < 4) × (1 ≤ axis (e .first)) ⌝ }
+    requires { ⌜ n < 4 ⌝ }
     ensures { λ r. ⌜ four r ≡ stepped which (suc n) (four e) ⌝ }
 {
     let same = which == 0;
@@ -138,7 +138,7 @@ pub fn step(e: Four, n: usize, which: u8) -> Four
 
 // The first n + 1 entries turned right by one place, the one that comes to the first place negated.
 pub fn turned_back(e: Four, n: usize) -> Four
-    requires { ⌜ (n < 4) × (1 ≤ axis (getD (four e) n 0)) ⌝ }
+    requires { ⌜ n < 4 ⌝ }
     ensures { λ r. ⌜ four r ≡ unturned n (four e) ⌝ }
 {
     let first = entries::negate(entry(e, n));

@@ -4,15 +4,15 @@ use mathlib.Core.Bool.{Bool}
 use mathlib.Core.List.{List}
 use Prim.Native.Nat.{ℕ, suc, _-_, _*_, _/_, _%_, _≤_, _<_}
 use native.Mathlib.Omega.{arith}
-use lib.ListN.{length, getD}
+use lib.ListN.{length}
 use Rattle.dimension.specs.Sizes.{splitPlace, boxDepth}
 use Rattle.dimension.specs.Laws.{split-range, split-is}
-use Rattle.bisection.specs.Codes.{axis, turned, step, stepped}
+use Rattle.bisection.specs.Codes.{turned, step, stepped}
 use Rattle.bisection.specs.Theorems.Entries.{unturned, unturned-turned}
 use Rattle.steps.specs.Above.{placeAbove, boxesAbove, BoxesReady, above-ready, go-place, go-boxes}
 use Rattle.fours.specs.declared.Four.{Four}
 use Rattle.fours.specs.Fours.{four, Holds}
-use Rattle.fours.specs.Laws.{held-axis, held-few, held-unturned}
+use Rattle.fours.specs.Laws.{held-few, held-unturned}
 use Rattle.next.specs.Paths.{stripped, One, one-last, none-last}
 use Rattle.next.specs.Names.{nameAt, rooted-some, name-passes-at}
 use Rattle.next.specs.Nexts.{Cell, ClimbReady, UpIs}
@@ -41,8 +41,8 @@ module _ {d : ℕ} {e : Four} {n t : ℕ} {root : List ℕ} {p : List Bool} (c :
     pub up-place : 1 ≤ j
     up-place = range .0
 
-    pub up-turn : (j - 1 < 4) × (1 ≤ axis (getD (four e) (j - 1) 0))
-    up-turn = (omega (arith, range, held-few (c .held)), held-axis (c .held) (j - 1) (omega (arith, range)))
+    pub up-turn : j - 1 < 4
+    up-turn = omega (arith, range, held-few (c .held))
 
     place-is : splitPlace d (length rest) ≡ suc (j - 1)
     place-is = ap (splitPlace d) (sym below) ∙ sym j-is ∙ omega (arith, range)
@@ -104,7 +104,7 @@ module _ {d : ℕ} {e₀ : Four} {n₀ t₀ : ℕ} {e : Four} {n t k boxes : ℕ
       pub loop-place : 1 ≤ j
       loop-place = up-place (l .here .cell) odd j j-at
 
-      pub loop-turn : (j - 1 < 4) × (1 ≤ axis (getD (four e) (j - 1) 0))
+      pub loop-turn : j - 1 < 4
       loop-turn = up-turn (l .here .cell) odd j j-at
 
       pub loop-more : (m : ℕ) → m ≡ boxesAbove boxes k d → (b : Four) → four b ≡ unturned (j - 1) (four e) → Loop d e₀ n₀ t₀ b (n / 2) (t - 1) j m

@@ -8,12 +8,12 @@ use native.Mathlib.Nat.{pow-le-pow-right}
 use lib.ListN.{length, take, replicate}
 use Rattle.dimension.specs.Sizes.{splitPlace, boxDepth, greatestDepth, halvings}
 use Rattle.dimension.specs.Laws.{split-range, box-under, depth-small}
-use Rattle.bisection.specs.Codes.{axis, turned, step, stepped, orthant}
+use Rattle.bisection.specs.Codes.{turned, step, stepped, orthant}
 use Rattle.bisection.specs.Theorems.Passing.{orthant-fits}
 use Rattle.steps.specs.Above.{placeAbove, boxesAbove, BoxesReady, above-ready, go-place, go-boxes}
 use Rattle.fours.specs.declared.Four.{Four}
 use Rattle.fours.specs.Fours.{four, Holds, OwnIs}
-use Rattle.fours.specs.Laws.{held-axis, held-few, held-turned}
+use Rattle.fours.specs.Laws.{held-few, held-turned}
 use Rattle.next.specs.declared.Next.{Next}
 use Rattle.next.specs.declared.Up.{Up}
 use Rattle.next.specs.Paths.{zeros, zeros-length, stripped, stripped-short, Zero, zero-last, number, number-under, number-zeros}
@@ -86,8 +86,8 @@ module _ {d : ℕ} {s : Next} {root : List ℕ} {p : List Bool} (st : Stands d s
         pub on-place : 1 ≤ k
         on-place = range .0
 
-        pub on-turn : (k - 1 < 4) × (1 ≤ axis (u .entries .first))
-        on-turn = (omega (arith, range, held-few held), held-axis held 0 (omega (arith, range)))
+        pub on-turn : k - 1 < 4
+        on-turn = omega (arith, range, held-few held)
 
         module _ (e : Four) (e-is : four e ≡ turned (suc (k - 1)) (four (u .entries))) where
           on-held : Holds d e (nameAt d root (true ∷ r) .entries)
@@ -166,7 +166,7 @@ module _ {d : ℕ} {s : Next} {D : ℕ} (y : AfterReady d s D) where
           pub after-place : 1 ≤ k
           after-place = on-place (y .stands) (y .n) D (y .depth-is) (y .deep) u mine some k k-is
 
-          pub after-turn : (k - 1 < 4) × (1 ≤ axis (u .entries .first))
+          pub after-turn : k - 1 < 4
           after-turn = on-turn (y .stands) (y .n) D (y .depth-is) (y .deep) u mine some k k-is
 
           module _ (e : Four) (e-is : four e ≡ turned (suc (k - 1)) (four (u .entries))) (own : ℕ) (own-is : OwnIs e own) (l : ℕ) (l-above : l ≡ boxesAbove (u .boxes) (u .place) d) where

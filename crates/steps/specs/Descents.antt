@@ -13,12 +13,12 @@ use lib.Seq.{paste, take-suc, take-all, drop-set-lt}
 use Rattle.dimension.specs.Sizes.{greatestDepth, codeLength, splitPlace, boxDepth}
 use Rattle.dimension.specs.Laws.{Dimension, dimension, at-root, depth-small, split-range, split-after}
 use Rattle.bisection.specs.Roots.{GoodRoot}
-use Rattle.bisection.specs.Codes.{axis, stepped, Name, step, rootName, nameBelow, nameOf, bytes, codeOf}
+use Rattle.bisection.specs.Codes.{stepped, Name, step, rootName, nameBelow, nameOf, bytes, codeOf}
 use Rattle.bisection.specs.Theorems.Passing.{Passes}
 use Rattle.bisection.specs.Theorems.Paths.{below-passes, below-snoc, root-passes}
 use Rattle.fours.specs.declared.Four.{Four}
 use Rattle.fours.specs.Fours.{four, noEntries, Holds}
-use Rattle.fours.specs.Laws.{pasted, held-axis, held-front, held-stepped}
+use Rattle.fours.specs.Laws.{pasted, held-front, held-stepped}
 use Rattle.steps.specs.Steps.{RoomForBox, BoxPut, box-room, box-next, box-on, entries-over}
 use Rattle.steps.specs.Relatives.{length-mono}
 
@@ -131,8 +131,8 @@ module _ {d : ℕ} {root path code : List ℕ} {t k at : ℕ} {e : Four} {code' 
     pub fall-some : 1 ≤ k
     fall-some = in-range .0
 
-    pub fall-first : (k - 1 < 4) × (1 ≤ axis (e .first))
-    fall-first = (omega (arith, in-range, range (i .ready) .few), held-axis (i .held) 0 (some (i .ready)))
+    pub fall-few : k - 1 < 4
+    fall-few = omega (arith, in-range, range (i .ready) .few)
 
     pub fall-room : RoomForBox k at code'
     fall-room = box-room d t (some (i .ready)) (i .place) (i .next) (omega (arith, fits, fall-size))

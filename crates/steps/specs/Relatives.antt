@@ -9,14 +9,14 @@ use lib.ListN.{length, getD, take, drop, set}
 use lib.Seq.{paste, take-all}
 use Rattle.dimension.specs.Sizes.{codeLength, longestOfAll, splitPlace, boxDepth}
 use Rattle.dimension.specs.Laws.{depth-small, Within, Turned, deeper, split-range}
-use Rattle.bisection.specs.Codes.{axis, stepped, Name, step, bytes, dimensionOf, depthOf, entriesOf, partsOf}
+use Rattle.bisection.specs.Codes.{stepped, Name, step, bytes, dimensionOf, depthOf, entriesOf, partsOf}
 use Rattle.bisection.specs.Refusals.{done, codeRefusal}
 use Rattle.bisection.specs.Theorems.CodePaths.{childCode}
 use Rattle.bisection.specs.Theorems.Passing.{Passes}
 use Rattle.entries.specs.Passed.{Checked, checked, code-few}
 use Rattle.fours.specs.declared.Four.{Four}
 use Rattle.fours.specs.Fours.{four, noEntries, Holds}
-use Rattle.fours.specs.Laws.{pasted, held-axis, held-front, held-stepped}
+use Rattle.fours.specs.Laws.{pasted, held-front, held-stepped}
 use Rattle.steps.specs.Steps.{RoomForBox, BoxPut, box-room, box-on, entries-over}
 
 -- what the child is written from
@@ -117,8 +117,8 @@ module _ {code out : List ℕ} {d D : ℕ} (r : ChildReady code d D out) where
     unfolding m
     held = code-held code (r .passes) (r .axes) (r .depth) e f
 
-    pub child-first : (j - 1 < 4) × (1 ≤ axis (from .first))
-    child-first = (omega (arith, some, range), held-axis held 0 (omega (arith, range)))
+    pub child-few : j - 1 < 4
+    child-few = omega (arith, some, range)
 
     pub child-box : (l : List ℕ) → length l ≡ length out → RoomForBox j (length code) l
     child-box l h = box-room d D (omega (arith, range)) p size (omega (arith, r .room))

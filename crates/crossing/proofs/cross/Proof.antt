@@ -1,6 +1,6 @@
 -- `cross` meets its contract: each refusal in its order, and the row of the facet, which leaves the box or stays in it.
 use Rattle.crossing.specs.Answers.{cross-own, cross-step}
-use Rattle.crossing.specs.Leaving.{facing-some, facing-few, facing-at, facing-axis, leaving}
+use Rattle.crossing.specs.Leaving.{facing-some, facing-whole, facing-few, facing-at, leaving}
 use Rattle.crossing.specs.Staying.{staying}
 use mathlib.Core.Path.{refl}
 use native.Mathlib.Omega.{arith}
@@ -11,38 +11,29 @@ use Rattle.crossing.proofs.cross.Tie as tie
 add-entry : tie.Need-add-entry
 add-entry c =
     let row = c .before .before in
-    let size = row .before .before .before .before in
-    let known = size .before .before in
-    let few = facing-few _ (known .before .before .code-check .ensures) (known .before .if1 .left) (known .dimension-of .ensures) (size .before .axes .ensures)
-    (size .size .ensures) (row .before .before .depth-of .ensures) (row .before .split-place .ensures) (row .either .ensures) (c .before .if3 .taken) (c .either2 .ensures) in
+    let size = row .before .before .before in
+    let known = size .before in
+    let few = facing-few _ (known .before .before .code-check .ensures) (known .before .if1 .left) (known .axes-of .ensures)
+    (size .size .ensures) (row .before .split-of .ensures) (row .either .ensures) (c .before .if3 .taken) (c .either2 .ensures) in
     omega (arith, few)
 
 shared-slice-read-entry : tie.Need-shared-slice-read-entry
 shared-slice-read-entry c =
     let read = c .before in
     let row = read .before .before in
-    let size = row .before .before .before .before in
-    let known = size .before .before in
-    facing-at _ (known .before .before .code-check .ensures) (known .before .if1 .left) (known .dimension-of .ensures) (size .before .axes .ensures)
-    (size .size .ensures) (row .before .before .depth-of .ensures) (row .before .split-place .ensures) (row .either .ensures) (read .before .if3 .taken) (read .either2 .ensures)
-
-negate-requires : tie.Need-negate-requires
-negate-requires c κs =
-    let read = c .before in
-    let row = read .before .before in
-    let size = row .before .before .before .before in
-    let known = size .before .before in
-    facing-axis _ (known .before .before .code-check .ensures) (known .before .if1 .left) (known .dimension-of .ensures) (size .before .axes .ensures)
-    (size .size .ensures) (row .before .before .depth-of .ensures) (row .before .split-place .ensures) (row .either .ensures) (read .before .if3 .taken) (read .either2 .ensures) refl
+    let size = row .before .before .before in
+    let known = size .before in
+    facing-at _ (known .before .before .code-check .ensures) (known .before .if1 .left) (known .axes-of .ensures)
+    (size .size .ensures) (row .before .split-of .ensures) (row .either .ensures) (read .before .if3 .taken) (read .either2 .ensures)
 
 cross-outside-requires : tie.Need-cross-outside-requires
 cross-outside-requires c κs =
     let read = c .before .before .before .before in
     let row = read .before .before in
-    let size = row .before .before .before .before in
-    let known = size .before .before in
-    leaving _ (known .before .before .code-check .ensures) (known .before .if1 .left) (known .dimension-of .ensures) (size .before .axes .ensures)
-    (size .size .ensures) (row .before .before .depth-of .ensures) (row .before .split-place .ensures) (row .either .ensures) (read .before .if3 .taken) (read .either2 .ensures)
+    let size = row .before .before .before in
+    let known = size .before in
+    leaving _ (known .before .before .code-check .ensures) (known .before .if1 .left) (known .axes-of .ensures)
+    (size .size .ensures) (row .before .split-of .ensures) (row .either .ensures) (read .before .if3 .taken) (read .either2 .ensures)
     refl (c .before .before .negate .ensures) (c .before .pick .ensures)
 
 pub cross-spec : {M : Type 1} → statement M
@@ -55,16 +46,14 @@ cross-spec =
     (λ c κs. search needs)
     (λ c κs. search needs)
     (λ c κs. search needs)
-    (λ c κs. search needs)
     (λ c. search (needs, cross-step))
-    (λ c κs. search needs)
-    (λ c κs. search needs)
+    (λ c κs. search (needs, facing-some, facing-whole))
     (λ c κs. search needs)
     (λ c. search (needs, facing-some))
     (λ c κs. search needs)
     add-entry
     shared-slice-read-entry
-    negate-requires
+    (λ c κs. search needs)
     (λ c κs. search needs)
     cross-outside-requires
     (λ c. search needs)

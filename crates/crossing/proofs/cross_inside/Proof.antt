@@ -1,15 +1,8 @@
 -- `cross_inside` meets its contract: refusal 11, or the code copied, with its entries rearranged; there is always a cell across.
-use Rattle.crossing.specs.Staying.{staying-room, staying-two, staying-four, staying-put, staying-few, staying-long, staying-most, staying-short, staying-movable, staying-byte, staying-done}
+use Rattle.crossing.specs.Staying.{staying-room, staying-two, staying-four, staying-put, staying-few, staying-long, staying-most, staying-short, staying-movable, staying-done}
 use borrow.Author.Needs.{needs}
 use Rattle.crossing.proofs.cross_inside.Statement.{statement}
 use Rattle.crossing.proofs.cross_inside.Tie as tie
-
-cast-t12 : tie.Need-cast-t12
-cast-t12 c =
-    let moved = c .before .before .before .before .before .before .before .before .before in
-    let entries = moved .before .before in
-    let small = staying-byte (entries .before .before .before .before .before .pre) (entries .entries-of .ensures) (entries .before .size .ensures) (moved .before .own-byte .ensures) (moved .rearranged .ensures) in
-    search (needs, small)
 
 pub cross-inside-spec : {M : Type 1} → statement M
 cross-inside-spec =
@@ -23,6 +16,5 @@ cross-inside-spec =
     (λ c κs. search (needs, staying-movable))
     (λ c κs. search (needs, staying-long, staying-most))
     (λ c κs. search (needs, staying-two, staying-four, staying-put))
-    cast-t12
     (λ c. search needs)
     (λ c. search (needs, staying-done)))

@@ -2,7 +2,7 @@
 use mathlib.Core.Path.{sym, _∙_}
 use lib.ListN.{length-set}
 use native.Mathlib.Omega.{arith}
-use Rattle.crossing.specs.Leaving.{leaving-room, leaving-long, leaving-most, leaving-at, leaving-few, leaving-some, leaving-axis, leaving-face, leaving-short, leaving-done}
+use Rattle.crossing.specs.Leaving.{leaving-room, leaving-long, leaving-most, leaving-at, leaving-few, leaving-some, leaving-face, leaving-short, leaving-done}
 use borrow.Author.Needs.{needs}
 use Rattle.crossing.proofs.cross_outside.Statement.{statement}
 use Rattle.crossing.proofs.cross_outside.Tie as tie
@@ -34,7 +34,7 @@ cross-outside-spec =
     (λ c. search (needs, leaving-short))
     (λ c. let r = c .before .before .before .before .before .pre in omega (arith, leaving-few r, r .place))
     (λ c. search (needs, leaving-at))
-    (λ c κs. search (needs, leaving-axis))
+    (λ c κs. search needs)
     (λ c κs. search (needs, leaving-long, leaving-most))
     add-out
     slice-write-out

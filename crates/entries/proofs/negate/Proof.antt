@@ -18,8 +18,7 @@ byte-of-requires c κs =
 returns-2 : tie.Need-returns-2
 returns-2 c =
     let args = c .before .before .before .args in
-    let pre = c .before .before .before .pre in
-    negation-byte (args .e) (omega arith) _ (c .before .signed-of .ensures) (pre) _ (c .byte-of .ensures)
+    negation-byte (args .e) (omega arith) _ (c .before .signed-of .ensures) (c .before .before .if1 .left) _ (c .byte-of .ensures)
 
 pub negate-spec : {M : Type 1} → statement M
 negate-spec =

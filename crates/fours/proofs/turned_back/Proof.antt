@@ -13,14 +13,14 @@ returns c =
     let pre = c .before .before .before .before .before .pre in
     let negate = c .before .before .before .negate in
     let entry = c .before .before .before .before .entry in
-    rw (pick .ensures, c .before .pick2 .ensures, c .pick3 .ensures) (back-is (args .e) (args .n) _ (pre .0) (negate .ensures ∙ ap negated (entry .ensures)))
+    rw (pick .ensures, c .before .pick2 .ensures, c .pick3 .ensures) (back-is (args .e) (args .n) _ pre (negate .ensures ∙ ap negated (entry .ensures)))
 
 pub turned-back-spec : {M : Type 1} → statement M
 turned-back-spec =
     tie.close
     (tie.spec
     (λ c κs. search needs)
-    (λ c κs. rw (c .entry .ensures) (c .before .pre .1))
+    (λ c κs. search needs)
     (λ c κs. search needs)
     (λ c κs. search needs)
     (λ c κs. search needs)

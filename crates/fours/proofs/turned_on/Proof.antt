@@ -13,7 +13,7 @@ returns c =
     let args = c .before .before .before .before .before .before .before .args in
     let pre = c .before .before .before .before .before .before .before .pre in
     let negate = c .before .before .before .before .before .before .negate in
-    rw (pick .ensures, pick3 .ensures, pick2 .ensures, c .before .pick5 .ensures, pick4 .ensures, c .pick6 .ensures) (on-is (args .e) (args .n) _ (pre .0) (negate .ensures))
+    rw (pick .ensures, pick3 .ensures, pick2 .ensures, c .before .pick5 .ensures, pick4 .ensures, c .pick6 .ensures) (on-is (args .e) (args .n) _ pre (negate .ensures))
 
 pub turned-on-spec : {M : Type 1} → statement M
 turned-on-spec =

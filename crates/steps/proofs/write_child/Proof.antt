@@ -2,7 +2,7 @@
 use mathlib.Core.Path.{refl, _∙_}
 use native.Mathlib.Omega.{arith}
 use lib.ListN.{length-set}
-use Rattle.steps.specs.Relatives.{child-front, child-byte, child-entries, child-over, child-some, child-first, child-box, child-written}
+use Rattle.steps.specs.Relatives.{child-front, child-byte, child-entries, child-over, child-some, child-few, child-box, child-written}
 use borrow.Author.Needs.{needs}
 use Rattle.steps.proofs.write_child.Statement.{statement}
 use Rattle.steps.proofs.write_child.Tie as tie
@@ -16,7 +16,7 @@ step-requires : tie.Need-step-requires
 step-requires c κs =
     let pre = c .before .before .before .before .before .pre in
     let axes = c .before .before .axes in
-    child-first pre (axes .ensures) (c .before .split-place .ensures) (c .entries-of .ensures)
+    child-few pre (axes .ensures) (c .before .split-place .ensures) (c .entries-of .ensures)
 
 shared-slice-read-out : tie.Need-shared-slice-read-out
 shared-slice-read-out c =

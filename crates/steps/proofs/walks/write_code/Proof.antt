@@ -5,7 +5,7 @@ use Prim.Native.Nat.{_-_}
 use native.Mathlib.Omega.{arith}
 use lib.ListN.{length, length-set}
 use Rattle.fours.specs.Laws.{fourOf}
-use Rattle.steps.specs.Descents.{Falling, code-two, code-entries, code-headed, fall-none, fall-size, fall-some, fall-first, fall-room, fall-next, code-over, code-written}
+use Rattle.steps.specs.Descents.{Falling, code-two, code-entries, code-headed, fall-none, fall-size, fall-some, fall-few, fall-room, fall-next, code-over, code-written}
 use borrow.Author.Needs.{needs}
 use Rattle.steps.proofs.walks.write_code.Statement.{statement}
 use Rattle.steps.proofs.walks.write_code.Tie as tie
@@ -45,7 +45,7 @@ loop-holds c =
 step-requires : tie.Need-step-requires Inv-loop μ-loop
 step-requires c κs =
     let loop = c .before .before .loop in
-    fall-first (loop .inv) (c .before .loop-test .taken)
+    fall-few (loop .inv) (c .before .loop-test .taken)
 
 put-box-requires : tie.Need-put-box-requires Inv-loop μ-loop
 put-box-requires c κs =

@@ -1,0 +1,14 @@
+-- `axes_of` meets its contract: a code that passes has two bytes.
+use native.Mathlib.Omega.{arith}
+use Rattle.bisection.specs.Codes.{dimensionOf}
+use Rattle.entries.specs.Passed.{checked-two}
+use borrow.Author.Needs.{needs}
+use Rattle.entries.proofs.check.axes_of.Statement.{statement}
+use Rattle.entries.proofs.check.axes_of.Tie as tie
+
+pub axes-of-spec : {M : Type 1} → statement M
+axes-of-spec = tie.close
+    (tie.spec
+    (λ c. omega (arith, checked-two (c .before .before .args .code .now) (c .before .before .pre)))
+    (λ c κs. search needs)
+    (λ c. unfold dimensionOf in c .size .ensures))
