@@ -1,12 +1,12 @@
 -- The cell of a code that passes, as its entries and orthants draw it.
 use mathlib.Core.Path.{_≡_, refl, sym, ap, _∙_, subst}
-use mathlib.Core.Bool.{Bool}
+use mathlib.Core.Bool.{Bool, true}
 use mathlib.Core.List.{List, _++_}
 use Prim.Native.Nat.{ℕ, _+_, _≤_, _<_}
 use native.Mathlib.Omega.{arith}
 use lib.ListN.{length, getD, take, drop, length-take, length-drop}
 use lib.Seq.{getD-take, getD-drop}
-use Rattle.dimension.specs.Sizes.{boxDepth, boxSide, sideAfter, splitPlace, greatestDepth, pointsLength}
+use Rattle.dimension.specs.Sizes.{isDimension, boxDepth, boxSide, sideAfter, splitPlace, greatestDepth, pointsLength}
 use Rattle.dimension.specs.Laws.{Dimension, dimension, side-first, side-of, cube-two-bytes}
 use Rattle.bisection.specs.Cells.{cellOf, cellBytes}
 use Rattle.bisection.specs.Codes.{axis, minus, IsCodeOf, dimensionOf, depthOf, entriesOf, orthantsOf, partsOf}
@@ -19,7 +19,7 @@ use Rattle.bisection.specs.Theorems.Drawn.{Drawn, boxLow, along}
 use Rattle.bisection.specs.Theorems.Geometry.{closed-form}
 use Rattle.corners.specs.declared.Line.{Line}
 use Rattle.corners.specs.Lines.{Fair, onLine, LineReady, LineOf, low-inside}
-use Rattle.corners.specs.Points.{Column, ColumnReady, Columns, columns-next, columns-all}
+use Rattle.corners.specs.Points.{Column, ColumnReady, Columns, columns-none, columns-next, columns-all}
 
 -- a code that passes, and room for its points
 pub record CellReady (code : List ℕ) (room : ℕ) : Type 0 where
@@ -108,20 +108,20 @@ module _ {code : List ℕ} {n i : ℕ} (r : LineReady code n i) where
   pub line-room : 2 + i < length code
   line-room = omega (arith, code-room code (r .passing), r .below)
 
-  pub line-low-ready : (a : ℕ) → a ≡ axis (getD code (2 + i) 0) → (1 ≤ a) × (a ≤ 8) × (2 + n ≤ length code)
-  line-low-ready a q = (
+  pub line-low-ready : {a : ℕ} → a ≡ axis (getD code (2 + i) 0) → (1 ≤ a) × (a ≤ 8) × (2 + n ≤ length code)
+  line-low-ready {a} q = (
     axis-low code (r .passing) i (r .below) a q,
     omega (arith, axis-high code (r .passing) i (r .below) a q, code-dimension code (r .passing) .few),
     omega (arith, r .dimension, code-room code (r .passing)),
   )
 
-  pub line-depth : (D : ℕ) → D ≡ getD code 1 0 → D ≤ greatestDepth n
-  line-depth D q = rw (q, r .dimension) (unfold depthOf in good code (r .passing) .depth)
+  pub line-depth : {D : ℕ} → D ≡ getD code 1 0 → D ≤ greatestDepth n
+  line-depth q = rw (q, r .dimension) (unfold depthOf in good code (r .passing) .depth)
 
-  pub line-made : (a D : ℕ) → a ≡ axis (getD code (2 + i) 0) → D ≡ getD code 1 0 → (low side : ℕ) (m : Bool) (k : ℕ)
+  pub line-made : {a D low side : ℕ} {m : Bool} {k : ℕ} → a ≡ axis (getD code (2 + i) 0) → D ≡ getD code 1 0
       → low ≡ boxLow a 0 (drop (2 + n) code) → side ≡ boxSide n D → m ≡ minus (getD code (2 + i) 0) → k ≡ splitPlace n D
       → LineOf code i (record { low = low; side = side; minus = m; place = i; split = k })
-  line-made a D qa qD low side m k el es em ek = record {
+  line-made {a} qa qD el es em ek = record {
     low = el ∙ unfold orthantsOf in rw (code-axis code (r .passing) i (r .below) a qa, r .dimension) refl;
     side = es ∙ unfold depthOf in rw (qD, r .dimension) refl;
     sign = em ∙ ap minus (code-entry code (r .passing) i (r .below));
@@ -129,25 +129,58 @@ module _ {code : List ℕ} {n i : ℕ} (r : LineReady code n i) where
     split = ek ∙ unfold depthOf in rw (qD, r .dimension) refl;
   }
 
--- the walk over the entries: n is the dimension as the code has it
-module _ (code : List ℕ) (e : codeRefusal code ≡ done) (n : ℕ) (q : n ≡ dimensionOf code) where
-  module _ (i : ℕ) (h : i < n) (a : ℕ) (qa : a ≡ axis (getD code (2 + i) 0)) {l : Line} (o : LineOf code i l) where
+module _ {code : List ℕ} {room : ℕ} (r : CellReady code room) where
+  pub cell-some : 0 < length code
+  cell-some = omega (arith, code-room code (r .passing))
+
+  pub cell-dimension : isDimension (getD code 0 0) ≡ true
+  cell-dimension = unfold dimensionOf in good code (r .passing) .dimension
+
+-- the walk over the entries: the columns of the first i are written; n is the dimension as the code has it
+pub record Drawing (code : List ℕ) (n i : ℕ) (before after : List ℕ) : Type 0 where
+  pub ready : CellReady code (length before)
+  pub axes : n ≡ dimensionOf code
+  pub few : i ≤ n
+  pub columns : Columns (dimensionOf code) (entriesOf code) (drawnAt code) i before after
+
+pub draw-start : {n d : ℕ} {code l : List ℕ} → CellReady code (length l) → n ≡ d → d ≡ getD code 0 0 → Drawing code n 0 l l
+draw-start r e f = record { ready = r; axes = e ∙ unfold dimensionOf in f; few = omega arith; columns = columns-none _ _ _ _ }
+
+module _ {code : List ℕ} {n i : ℕ} {before l : List ℕ} (w : Drawing code n i before l) where
+  e : codeRefusal code ≡ done
+  e = w .ready .passing
+
+  pub draw-few : n ≤ 8
+  draw-few = omega (arith, w .axes, code-dimension code e .few)
+
+  pub draw-end : n ≤ i → CellWritten code before l
+  draw-end h = code-written code e (w .ready .space) (subst (λ (m : ℕ). Columns (dimensionOf code) (entriesOf code) (drawnAt code) m before l) (omega (arith, w .few, w .axes)) (w .columns))
+
+  module _ (h : i < n) where
     below : i < dimensionOf code
-    below = omega (arith, q)
+    below = omega (arith, w .axes)
 
-    pub column-ready : (room : ℕ) → pointsLength (dimensionOf code) ≤ room → ColumnReady n a l room
-    column-ready room s = rw q (record {
-      few = omega (arith, code-dimension code e .few);
-      low = axis-low code e i below a qa;
-      high = axis-high code e i below a qa;
-      space = s;
-      fair = line-fair code e o;
-    })
+    pub draw-reads : 2 + i < length code
+    draw-reads = omega (arith, code-room code e, below)
 
-    pub cell-next : {before now after : List ℕ} → Columns (dimensionOf code) (entriesOf code) (drawnAt code) i before now → Column n a (onLine l) (n + 1) now after
-        → Columns (dimensionOf code) (entriesOf code) (drawnAt code) (i + 1) before after
-    cell-next c p = columns-next (code-signed code e) below c a (code-axis code e i below a qa) (onLine l) (line-drawn code e o) (rw q at p)
+    pub draw-line : {d : ℕ} → n ≡ d → LineReady code d i
+    draw-line q = record { passing = e; dimension = sym q ∙ w .axes; below = below }
 
-  pub cell-all : {before after : List ℕ} → pointsLength (dimensionOf code) ≤ length before → (i : ℕ) → i ≤ n → n ≤ i
-      → Columns (dimensionOf code) (entriesOf code) (drawnAt code) i before after → CellWritten code before after
-  cell-all {before} {after} s i h l c = code-written code e s (subst (λ (m : ℕ). Columns (dimensionOf code) (entriesOf code) (drawnAt code) m before after) (omega arith) c)
+    -- an entry's axis, as a byte and as a size
+    module _ {b a : ℕ} (qb : b ≡ axis (getD code (2 + i) 0)) (qa : a ≡ b) {line : Line} (o : LineOf code i line) where
+      pub draw-column : ColumnReady n a line (length l)
+      draw-column = rw (w .axes) (record {
+        few = omega (arith, code-dimension code e .few);
+        low = axis-low code e i below a (qa ∙ qb);
+        high = axis-high code e i below a (qa ∙ qb);
+        space = omega (arith, w .ready .space, w .columns .size);
+        fair = line-fair code e o;
+      })
+
+      pub draw-next : {after : List ℕ} → Column n a (onLine line) (n + 1) l after → Drawing code n (i + 1) before after
+      draw-next p = record {
+        ready = w .ready;
+        axes = w .axes;
+        few = omega arith;
+        columns = columns-next (code-signed code e) below (w .columns) a (code-axis code e i below a (qa ∙ qb)) (onLine line) (line-drawn code e o) (rw (w .axes) at p);
+      }

@@ -17,7 +17,7 @@ use mir.Syntax.{w16, w32}
 use mir.Val.{SFits, Fits, toZ, ofZ}
 use mir.ValLaws.{toZ-ofZ, toZ-pos}
 use Rattle.dimension.specs.Sizes.{cubeSide, splitPlace, boxSide, sideAfter}
-use Rattle.dimension.specs.Laws.{side-half, side-first, at-root, cube-two-bytes}
+use Rattle.dimension.specs.Laws.{Dimension, side-half, side-first, at-root, cube-two-bytes}
 use Rattle.bisection.specs.Codes.{axis, minus, high, dimensionOf, depthOf, entriesOf, orthantsOf}
 use Rattle.bisection.specs.Refusals.{done, codeRefusal}
 use Rattle.bisection.specs.Theorems.Axis.{near, far, closed, closed-near, closed-far, closed-middle}
@@ -133,78 +133,67 @@ pos-same : {a b : ℕ} → pos a ≡ pos b → a ≡ b
 pos-same e = cc
 
 -- the coordinate of vertex j, one law for each way out; x is the near side as the code has it
-module _ (l : Line) (j : ℕ) (f : Fair l j) (x : ℕ) (e : x ≡ near (l .low) (l .side) (l .minus)) where
+module _ {l : Line} {j : ℕ} (f : Fair l j) {x : ℕ} (e : x ≡ near (l .low) (l .side) (l .minus)) where
   pub line-near : j ≤ l .place → x ≡ onLine l j
   line-near h = e ∙ sym (closed-near (l .low) (l .side) (l .minus) (l .place) (l .split) j h)
 
   module _ (h : l .place < j) where
-    module _ (q : j ≤ l .split) (step : ℤ) (is : step ≡ signedStep (l .side) (l .minus)) where
+    module _ (q : j ≤ l .split) {step : ℤ} (is : step ≡ signedStep (l .side) (l .minus)) where
       to-far : pos x +ℤ toZ w32 (ofZ w32 step) ≡ pos (far (l .low) (l .side) (l .minus))
       to-far = rw (e, step-held (l .side) (l .minus) (omega (arith, f .inside)) step is) (near-far (l .low) (l .side) (l .minus))
 
       pub far-moves : MovesTo x (toZ w32 (ofZ w32 step))
       far-moves = record { to = far (l .low) (l .side) (l .minus); is = to-far; small = omega (arith, far-under (l .low) (l .side) (l .minus), f .inside) }
 
-      pub line-far : (r : ℕ) → pos r ≡ pos x +ℤ toZ w32 (ofZ w32 step) → r ≡ onLine l j
-      line-far r p = pos-same (p ∙ to-far) ∙ sym (closed-far (l .low) (l .side) (l .minus) (l .place) (l .split) j h q)
+      pub line-far : {r : ℕ} → pos r ≡ pos x +ℤ toZ w32 (ofZ w32 step) → r ≡ onLine l j
+      line-far p = pos-same (p ∙ to-far) ∙ sym (closed-far (l .low) (l .side) (l .minus) (l .place) (l .split) j h q)
 
-    module _ (q : l .split < j) (step : ℤ) (is : step ≡ signedStep (l .side / 2) (l .minus)) where
+    module _ (q : l .split < j) {step : ℤ} (is : step ≡ signedStep (l .side / 2) (l .minus)) where
       to-middle : pos x +ℤ toZ w32 (ofZ w32 step) ≡ pos (l .low + l .side / 2)
       to-middle = rw (e, step-held (l .side / 2) (l .minus) (omega (arith, f .inside)) step is) (near-middle (l .low) (l .side) (l .minus) (f .even q))
 
       pub middle-moves : MovesTo x (toZ w32 (ofZ w32 step))
       middle-moves = record { to = l .low + l .side / 2; is = to-middle; small = omega (arith, f .inside) }
 
-      pub line-middle : (r : ℕ) → pos r ≡ pos x +ℤ toZ w32 (ofZ w32 step) → r ≡ onLine l j
-      line-middle r p = pos-same (p ∙ to-middle) ∙ sym (closed-middle (l .low) (l .side) (l .minus) (l .place) (l .split) j h q)
+      pub line-middle : {r : ℕ} → pos r ≡ pos x +ℤ toZ w32 (ofZ w32 step) → r ≡ onLine l j
+      line-middle p = pos-same (p ∙ to-middle) ∙ sym (closed-middle (l .low) (l .side) (l .minus) (l .place) (l .split) j h q)
 
--- the low side, byte by byte: M orthants are past, `low` is what they give and `side` the side after them
-pub record LowSoFar (a : ℕ) (os rest : List ℕ) (low side : ℕ) : Type 0 where
+-- the low side, byte by byte: the bytes before place i are past, `low` is what they give and `side` the side after them
+pub record LowSoFar (a : ℕ) (code : List ℕ) (from i low side : ℕ) : Type 0 where
+  pub within : i ≤ length code
   pub past : ℕ
-  pub is : low + boxLow a past rest ≡ boxLow a 0 os
+  pub is : low + boxLow a past (drop i code) ≡ boxLow a 0 (drop from code)
   pub halved : side ≡ sideAfter past
   pub inside : low + side ≤ cubeSide
 
-pub low-none : (a : ℕ) (os : List ℕ) (d : ℕ) → 0 < d → (side : ℕ) → side ≡ boxSide d 0 → LowSoFar a os os 0 side
-low-none a os d h side e = record { past = 0; is = omega arith; halved = whole; inside = omega (arith, whole, side-first) }
+pub low-none : {a d n side : ℕ} {code : List ℕ} → n ≡ d → Dimension d → 2 + d ≤ length code → side ≡ boxSide d 0 → LowSoFar a code (2 + n) (2 + n) 0 side
+low-none {d = d} {side = side} e r h f = record { within = omega (arith, e); past = 0; is = omega arith; halved = whole; inside = omega (arith, whole, side-first) }
   where
     whole : side ≡ sideAfter 0
-    whole = e ∙ unfold boxSide in ap sideAfter (at-root d h .0)
+    whole = f ∙ unfold boxSide in ap sideAfter (at-root d (omega (arith, r .two)) .0)
 
-module _ {a : ℕ} {os : List ℕ} {low side : ℕ} (code : List ℕ) (i : ℕ) (h : i < length code) (s : LowSoFar a os (drop i code) low side) where
-  next : drop i code ≡ getD code i 0 ∷ drop (i + 1) code
-  next = rw (add-one i) (drop-cons code i 0 h)
-
+module _ {a : ℕ} {code : List ℕ} {from i low side : ℕ} (s : LowSoFar a code from i low side) where
   pub low-room : low + side / 2 < 2 ^ 16
   low-room = omega (arith, s .inside, cube-two-bytes)
 
-  pub low-high : (t : Bool) → t ≡ high (getD code i 0) a → t ≡ true → LowSoFar a os (drop (i + 1) code) (low + side / 2) (side / 2)
-  low-high t e q = record {
-    past = suc (s .past);
-    is = omega (arith, sum, halved);
-    halved = halved;
-    inside = omega (arith, s .inside);
-  }
-    where
-      halved : side / 2 ≡ sideAfter (suc (s .past))
-      halved = rw (side-half (s .past), ← s .halved) refl
+  halved : side / 2 ≡ sideAfter (suc (s .past))
+  halved = rw (side-half (s .past), ← s .halved) refl
 
-      sum : low + (sideAfter (suc (s .past)) + boxLow a (suc (s .past)) (drop (i + 1) code)) ≡ boxLow a 0 os
-      sum = unfold boxLow in rw (← e, q) at (rw next at (s .is))
+  module _ (h : i < length code) {t : Bool} (e : t ≡ high (getD code i 0) a) where
+    adds : low + (cond t (sideAfter (suc (s .past))) 0 + boxLow a (suc (s .past)) (drop (i + 1) code)) ≡ boxLow a 0 (drop from code)
+    adds = unfold boxLow in rw e (rw next at (s .is))
+      where
+        next : drop i code ≡ getD code i 0 ∷ drop (i + 1) code
+        next = rw (add-one i) (drop-cons code i 0 h)
 
-  pub low-plain : (t : Bool) → t ≡ high (getD code i 0) a → t ≡ false → LowSoFar a os (drop (i + 1) code) low (side / 2)
-  low-plain t e q = record {
-    past = suc (s .past);
-    is = omega (arith, sum);
-    halved = rw (side-half (s .past), ← s .halved) refl;
-    inside = omega (arith, s .inside);
-  }
-    where
-      sum : low + (0 + boxLow a (suc (s .past)) (drop (i + 1) code)) ≡ boxLow a 0 os
-      sum = unfold boxLow in rw (← e, q) at (rw next at (s .is))
+    pub low-high : t ≡ true → LowSoFar a code from (i + 1) (low + side / 2) (side / 2)
+    low-high q = record { within = omega arith; past = suc (s .past); is = omega (arith, rw q at adds, halved); halved = halved; inside = omega (arith, s .inside) }
 
-pub low-all : {a : ℕ} {os : List ℕ} {low side : ℕ} (code : List ℕ) (i : ℕ) → length code ≤ i → LowSoFar a os (drop i code) low side → low ≡ boxLow a 0 os
-low-all {a} {os} {low} code i h s = sym none ∙ s .is
+    pub low-plain : t ≡ false → LowSoFar a code from (i + 1) low (side / 2)
+    low-plain q = record { within = omega arith; past = suc (s .past); is = omega (arith, rw q at adds); halved = halved; inside = omega (arith, s .inside) }
+
+pub low-all : {a d n i low side : ℕ} {code : List ℕ} → n ≡ d → LowSoFar a code (2 + n) i low side → length code ≤ i → low ≡ boxLow a 0 (drop (2 + d) code)
+low-all {a} {i = i} {low = low} {code = code} e s h = rw (← e) (sym none ∙ s .is)
   where
     none : low + boxLow a (s .past) (drop i code) ≡ low
     none = unfold boxLow in rw (drop-of-length-le code h) (add-zero low)

@@ -16,7 +16,7 @@ use Rattle.bisection.specs.Codes.{axis}
 use Rattle.bisection.specs.Theorems.Entries.{Signed, Stands, stands}
 use Rattle.bisection.specs.Theorems.Drawn.{Sized, along}
 use Rattle.corners.specs.declared.Line.{Line}
-use Rattle.corners.specs.Lines.{Fair}
+use Rattle.corners.specs.Lines.{Fair, fair-below, onLine}
 
 -- coordinate n of the list is x
 pub record Holds (l : List ℕ) (n x : ℕ) : Type 0 where
@@ -54,7 +54,7 @@ unfolding pointsLength
 cell-twice d = mul-left-comm (suc d) 2 d
 
 module _ (d j a : ℕ) (l : 1 ≤ a) (u : a ≤ d) where
-  pub spot-under : j ≤ d → 2 * spot d j a + 1 < pointsLength d
+  spot-under : j ≤ d → 2 * spot d j a + 1 < pointsLength d
   spot-under h = omega (arith, cell-twice d, digits-lt {q = j} {m = suc d} {r = a - 1} {c = d} (omega arith) (omega arith))
 
   spot-vertex : spot d j a / d ≡ j
@@ -83,10 +83,10 @@ pub record ColumnReady (d a : ℕ) (line : Line) (room : ℕ) : Type 0 where
   pub space : pointsLength d ≤ room
   pub fair : Fair line d
 
-pub column-none : (d a : ℕ) (x : ℕ → ℕ) (l : List ℕ) → Column d a x 0 l l
+column-none : (d a : ℕ) (x : ℕ → ℕ) (l : List ℕ) → Column d a x 0 l l
 column-none d a x l = record { size = refl; here = λ j h. absurd (omega arith); others = λ j b l u h y q. q; past = λ p h. refl }
 
-pub column-next : {d a : ℕ} {x : ℕ → ℕ} {n : ℕ} {before l after : List ℕ} → 1 ≤ a → a ≤ d → n ≤ d → Column d a x n before l → (y : ℕ) → y ≡ x n
+column-next : {d a : ℕ} {x : ℕ → ℕ} {n : ℕ} {before l after : List ℕ} → 1 ≤ a → a ≤ d → n ≤ d → Column d a x n before l → (y : ℕ) → y ≡ x n
     → Put (spot d n a) y l after → Column d a x (n + 1) before after
 column-next {d} {a} {x} {n} {before} {l} {after} lo hi nd c y e p = record {
   size = p .size ∙ c .size;
@@ -99,8 +99,27 @@ column-next {d} {a} {x} {n} {before} {l} {after} lo hi nd c y e p = record {
     go j h (yes s) = rw s (rw (← e) (p .here))
     go j h (no s) = put-keeps p (spot d j a) (x j) (spot-apart d j n a lo hi s) (c .here j (omega arith))
 
-pub column-all : {d a : ℕ} {x : ℕ → ℕ} {n : ℕ} {before after : List ℕ} → n ≤ d + 1 → d < n → Column d a x n before after → Column d a x (d + 1) before after
-column-all {d} {a} {x} {n} {before} {after} h l c = subst (λ (m : ℕ). Column d a x m before after) (omega arith) c
+-- the loop that writes them
+pub record Filling (d a : ℕ) (line : Line) (j : ℕ) (before after : List ℕ) : Type 0 where
+  pub ready : ColumnReady d a line (length before)
+  pub few : j ≤ d + 1
+  pub column : Column d a (onLine line) j before after
+
+pub fill-start : {d a : ℕ} {line : Line} {l : List ℕ} → ColumnReady d a line (length l) → Filling d a line 0 l l
+fill-start {d} {a} {line} {l} r = record { ready = r; few = omega arith; column = column-none d a (onLine line) l }
+
+module _ {d a : ℕ} {line : Line} {j : ℕ} {before l : List ℕ} (f : Filling d a line j before l) where
+  pub fill-room : j ≤ d → 2 * spot d j a + 1 < length l
+  fill-room h = omega (arith, spot-under d j a (f .ready .low) (f .ready .high) h, f .ready .space, f .column .size)
+
+  pub fill-fair : j ≤ d → Fair line j
+  fill-fair = fair-below (f .ready .fair) j
+
+  pub fill-next : {y : ℕ} {after : List ℕ} → j ≤ d → y ≡ onLine line j → Put (spot d j a) y l after → Filling d a line (j + 1) before after
+  fill-next {y} h e p = record { ready = f .ready; few = omega arith; column = column-next (f .ready .low) (f .ready .high) h (f .column) y e p }
+
+  pub fill-end : d < j → Column d a (onLine line) (d + 1) before l
+  fill-end h = subst (λ (m : ℕ). Column d a (onLine line) m before l) (omega (arith, f .few)) (f .column)
 
 -- the bytes of a point and of a cell, place by place
 pub point-size : (v : Point) → length (pointBytes v) ≡ 2 * length v

@@ -75,17 +75,18 @@ pub record Loop (d : ℕ) (e₀ : Four) (n₀ t₀ : ℕ) (e : Four) (n t k boxe
   pub here : ClimbReady d e n t
   pub way : (root : List ℕ) (p : List Bool) → Cell d e₀ n₀ t₀ root p → Climbing d e n t root p
 
-pub loop-start : {d : ℕ} {e : Four} {n t : ℕ} (boxes : ℕ) → ClimbReady d e n t → boxes ≡ boxDepth d t → Loop d e n t e n t (d - (t - d * boxes)) boxes
-loop-start {d} {t = t} boxes r h = record { place = split-is d t d boxes refl h; count = h; here = r; way = λ root p c. record { at = p; cell = c; same = refl } }
+pub loop-start : {a d : ℕ} {e : Four} {n t boxes : ℕ} → a ≡ d → ClimbReady d e n t → boxes ≡ boxDepth d t → Loop a e n t e n t (a - (t - a * boxes)) boxes
+loop-start {a} {d} {e} {n} {t} {boxes} q r h = subst (λ (x : ℕ). Loop x e n t e n t (x - (t - x * boxes)) boxes) (sym q)
+    (record { place = split-is d t d boxes refl h; count = h; here = r; way = λ root p c. record { at = p; cell = c; same = refl } })
 
 module _ {d : ℕ} {e₀ : Four} {n₀ t₀ : ℕ} {e : Four} {n t k boxes : ℕ} (l : Loop d e₀ n₀ t₀ e n t k boxes) where
-  pub loop-end : (n % 2 ≡ 1 → ⊥) → UpIs d e₀ n₀ t₀ (record { entries = e; path = n; depth = t; place = k; boxes = boxes })
-  loop-end even = record {
+  pub loop-end : {a : ℕ} → d ≡ a → (n % 2 ≡ 1 → ⊥) → UpIs a e₀ n₀ t₀ (record { entries = e; path = n; depth = t; place = k; boxes = boxes })
+  loop-end q even = subst (λ (x : ℕ). UpIs x e₀ n₀ t₀ (record { entries = e; path = n; depth = t; place = k; boxes = boxes })) q (record {
     place-is = l .place;
     boxes-are = l .count;
     up = λ root p c. let w = l .way root p c in subst (Cell d e n t root)
         (sym (w .same ∙ none-last (w .at) (λ h. even (ap (λ (m : ℕ). m % 2) (w .cell .path-is) ∙ h)))) (w .cell);
-  }
+  })
 
   pub loop-small : k ≤ 8
   loop-small = omega (arith, l .place, split-range d t (rooted-some (l .here .cell .rooted)), held-few (l .here .cell .held))
@@ -97,7 +98,7 @@ module _ {d : ℕ} {e₀ : Four} {n₀ t₀ : ℕ} {e : Four} {n t k boxes : ℕ
     pub loop-boxes : BoxesReady boxes k d
     loop-boxes = above-ready (rooted-some (l .here .cell .rooted)) loop-some (l .place) (l .count)
 
-    module _ (j : ℕ) (j-is : j ≡ placeAbove k d) where
+    module _ {j : ℕ} (j-is : j ≡ placeAbove k d) where
       j-at : j ≡ splitPlace d (t - 1)
       j-at = go-place {boxes = boxes} (rooted-some (l .here .cell .rooted)) loop-some (l .place) (l .count) j-is
 
@@ -107,8 +108,8 @@ module _ {d : ℕ} {e₀ : Four} {n₀ t₀ : ℕ} {e : Four} {n t k boxes : ℕ
       pub loop-turn : j - 1 < 4
       loop-turn = up-turn (l .here .cell) odd j j-at
 
-      pub loop-more : (m : ℕ) → m ≡ boxesAbove boxes k d → (b : Four) → four b ≡ unturned (j - 1) (four e) → Loop d e₀ n₀ t₀ b (n / 2) (t - 1) j m
-      loop-more m v b q = record {
+      pub loop-more : {m : ℕ} {b : Four} → m ≡ boxesAbove boxes k d → four b ≡ unturned (j - 1) (four e) → Loop d e₀ n₀ t₀ b (n / 2) (t - 1) j m
+      loop-more {m} {b} v q = record {
         place = j-at;
         count = go-boxes (rooted-some (l .here .cell .rooted)) loop-some (l .place) (l .count) v;
         here = record { root = l .here .root; path = rest (l .here .cell) odd; cell = up-cell (l .here .cell) odd j j-at b q };

@@ -27,8 +27,8 @@ pub record Comparing (n at : ℕ) (bs : List ℕ) (w i left : ℕ) : Type 0 wher
   pub on : take n (drop at bs) ≡ digits n w → take (n - i) (drop (at + i) bs) ≡ digits (n - i) left
   pub back : take (n - i) (drop (at + i) bs) ≡ digits (n - i) left → take n (drop at bs) ≡ digits n w
 
-pub comparing-start : (n at : ℕ) (bs : List ℕ) (w : ℕ) → Comparing n at bs w 0 w
-comparing-start n at bs w =
+pub comparing-start : {n at : ℕ} {bs : List ℕ} {w : ℕ} → Comparing n at bs w 0 w
+comparing-start {n} {at} =
     let a : at + 0 ≡ at = omega arith in
     let b : n - 0 ≡ n = omega arith in
     record { few = omega arith; on = λ e. rw (a, b) e; back = λ e. rw (a, b) at e }
@@ -52,14 +52,14 @@ module _ {n at : ℕ} {bs : List ℕ} {w i left : ℕ} (c : Comparing n at bs w 
     unfolding digits
     digits-split = let more : n - i ≡ suc (n - (i + 1)) = omega arith in rw more refl
 
-    pub compared-not : getD bs (at + i) 0 ≢ left % 16 → SameDigits n (take n (drop at bs)) w false
-    compared-not q = record { equal = λ e. absurd (subst T (sym e) tt); told = λ e. absurd (q (ap (λ (l : List ℕ). getD l 0 0) (sym split ∙ c .on e ∙ digits-split))) }
+    pub compared-not : {low : ℕ} → low ≡ left % 16 → getD bs (at + i) 0 ≢ low → SameDigits n (take n (drop at bs)) w false
+    compared-not l q = record { equal = λ e. absurd (subst T (sym e) tt); told = λ e. absurd (q (ap (λ (l : List ℕ). getD l 0 0) (sym split ∙ c .on e ∙ digits-split) ∙ sym l)) }
 
-    pub comparing-on : getD bs (at + i) 0 ≡ left % 16 → Comparing n at bs w (i + 1) (left / 16)
-    comparing-on q = record {
+    pub comparing-on : {low : ℕ} → low ≡ left % 16 → getD bs (at + i) 0 ≡ low → Comparing n at bs w (i + 1) (left / 16)
+    comparing-on l q = record {
       few = omega arith;
       on = λ e. ap (drop 1) (sym split ∙ c .on e ∙ digits-split);
-      back = λ e. c .back (split ∙ rw (q, e) (sym digits-split));
+      back = λ e. c .back (split ∙ rw (q, l, e) (sym digits-split));
     }
 
 pub digits-take : (m n w : ℕ) → m ≤ n → digits m w ≡ take m (digits n w)

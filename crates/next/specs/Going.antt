@@ -118,6 +118,13 @@ module _ {d : ℕ} {s : Next} {root : List ℕ} {p : List Bool} (st : Stands d s
                 front : nameAt d root r .orthants ≡ take (boxDepth d (length r)) (allBoxes d root p)
                 front = stripped-front (c .rooted) q r (allBoxes d root p) (z .is) leaf-front
 
+-- the cell above a leaf without the 1s at its path's end, whatever root and path the next cell stands for
+pub record Risen (d : ℕ) (s : Next) (D : ℕ) (u : Up) : Type 0 where
+  pub ready : AfterReady d s D
+  pub place-is : u .place ≡ splitPlace d (u .depth)
+  pub boxes-are : u .boxes ≡ boxDepth d (u .depth)
+  pub cells : (root : List ℕ) (p : List Bool) (n : ℕ) → Stands d s root p → D ≡ n + length p → Cell d (u .entries) (u .path) (u .depth) root (stripped (zeros n p))
+
 -- the laws of `after`: its needs for the one cell that it is ready for, its answer for all
 module _ {d : ℕ} {s : Next} {D : ℕ} (y : AfterReady d s D) where
   pub after-above : s .depth ≤ D
@@ -126,56 +133,58 @@ module _ {d : ℕ} {s : Next} {D : ℕ} (y : AfterReady d s D) where
   pub after-short : D - s .depth ≤ 60
   after-short = omega (arith, leaf-short (y .stands) (y .n) D (y .depth-is) (y .deep))
 
-  module _ (m : ℕ) (m-is : m ≡ 2 ^ (D - s .depth)) where
+  module _ {m : ℕ} (m-is : m ≡ 2 ^ (D - s .depth)) where
     pub after-path : s .path * m < 2 ^ 64
     after-path = rw m-is (leaf-number (y .stands) (y .n) D (y .depth-is) (y .deep))
 
-    cell-at : (root : List ℕ) (p : List Bool) (n : ℕ) → Stands d s root p → D ≡ n + length p → Cell d (entriesOf s) (s .path * m) D root (zeros n p)
-    cell-at root p n st e = rw m-is (leaf-cell st n D e (y .deep))
+    module _ {es : Four} (es-are : es ≡ entriesOf s) where
+      cell-at : (root : List ℕ) (p : List Bool) (n : ℕ) → Stands d s root p → D ≡ n + length p → Cell d es (s .path * m) D root (zeros n p)
+      cell-at root p n st e = rw (es-are, m-is) (leaf-cell st n D e (y .deep))
 
-    pub after-climb : ClimbReady d (entriesOf s) (s .path * m) D
-    after-climb = record { root = y .root; path = zeros (y .n) (y .path); cell = cell-at (y .root) (y .path) (y .n) (y .stands) (y .depth-is) }
+      pub after-climb : ClimbReady d es (s .path * m) D
+      after-climb = record { root = y .root; path = zeros (y .n) (y .path); cell = cell-at (y .root) (y .path) (y .n) (y .stands) (y .depth-is) }
 
-    module _ (u : Up) (up : UpIs d (entriesOf s) (s .path * m) D u) where
-      up-at : (root : List ℕ) (p : List Bool) (n : ℕ) → Stands d s root p → D ≡ n + length p → Cell d (u .entries) (u .path) (u .depth) root (stripped (zeros n p))
-      up-at root p n st e = up .up root (zeros n p) (cell-at root p n st e)
+      pub after-risen : {u : Up} → UpIs d es (s .path * m) D u → Risen d s D u
+      after-risen up = record { ready = y; place-is = up .place-is; boxes-are = up .boxes-are; cells = λ root p n st e. up .up root (zeros n p) (cell-at root p n st e) }
 
-      pub after-over : u .depth ≡ 0 → (x : Next) → AfterIs d s D (record { more = false; next = x })
-      after-over z x = record { gone = λ root p n st e. over (leaf-over st n D e (y .deep) u (up-at root p n st e) z) refl }
+module _ {d : ℕ} {s : Next} {D : ℕ} {u : Up} (r : Risen d s D u) where
+  pub after-over : {x : Next} → u .depth ≡ 0 → AfterIs d s D (record { more = false; next = x })
+  after-over z = record { gone = λ root p n st e. over (leaf-over st n D e (r .ready .deep) u (r .cells root p n st e) z) refl }
 
-      module _ (some : u .depth ≡ 0 → ⊥) where
-        mine : Cell d (u .entries) (u .path) (u .depth) (y .root) (stripped (zeros (y .n) (y .path)))
-        mine = up-at (y .root) (y .path) (y .n) (y .stands) (y .depth-is)
+  module _ (some : u .depth ≡ 0 → ⊥) where
+    mine : Cell d (u .entries) (u .path) (u .depth) (r .ready .root) (stripped (zeros (r .ready .n) (r .ready .path)))
+    mine = r .cells (r .ready .root) (r .ready .path) (r .ready .n) (r .ready .stands) (r .ready .depth-is)
 
-        pub after-number : u .path + 1 < 2 ^ 64
-        after-number = on-number (y .stands) (y .n) D (y .depth-is) (y .deep) u mine some
+    pub after-number : u .path + 1 < 2 ^ 64
+    after-number = on-number (r .ready .stands) (r .ready .n) D (r .ready .depth-is) (r .ready .deep) u mine some
 
-        d0 : 0 < d
-        d0 = rooted-some (mine .rooted)
+    d0 : 0 < d
+    d0 = rooted-some (mine .rooted)
 
-        pub after-small : u .place ≤ 8
-        after-small = omega (arith, up .place-is, split-range d (u .depth) d0, held-few (mine .held))
+    pub after-small : u .place ≤ 8
+    after-small = omega (arith, r .place-is, split-range d (u .depth) d0, held-few (mine .held))
 
-        pub after-boxes : BoxesReady (u .boxes) (u .place) d
-        after-boxes = above-ready d0 (omega (arith, some)) (up .place-is) (up .boxes-are)
+    module _ {a : ℕ} (axes : a ≡ d) where
+      pub after-boxes : BoxesReady (u .boxes) (u .place) a
+      after-boxes = rw axes (above-ready d0 (omega (arith, some)) (r .place-is) (r .boxes-are))
 
-        module _ (k : ℕ) (k-above : k ≡ placeAbove (u .place) d) where
-          k-is : k ≡ splitPlace d (u .depth - 1)
-          k-is = go-place {boxes = u .boxes} d0 (omega (arith, some)) (up .place-is) (up .boxes-are) k-above
+      module _ {k : ℕ} (k-above : k ≡ placeAbove (u .place) a) where
+        k-is : k ≡ splitPlace d (u .depth - 1)
+        k-is = go-place {boxes = u .boxes} d0 (omega (arith, some)) (r .place-is) (r .boxes-are) (rw axes at k-above)
 
-          pub after-place : 1 ≤ k
-          after-place = on-place (y .stands) (y .n) D (y .depth-is) (y .deep) u mine some k k-is
+        pub after-place : 1 ≤ k
+        after-place = on-place (r .ready .stands) (r .ready .n) D (r .ready .depth-is) (r .ready .deep) u mine some k k-is
 
-          pub after-turn : k - 1 < 4
-          after-turn = on-turn (y .stands) (y .n) D (y .depth-is) (y .deep) u mine some k k-is
+        pub after-turn : k - 1 < 4
+        after-turn = on-turn (r .ready .stands) (r .ready .n) D (r .ready .depth-is) (r .ready .deep) u mine some k k-is
 
-          module _ (e : Four) (e-is : four e ≡ turned (suc (k - 1)) (four (u .entries))) (own : ℕ) (own-is : OwnIs e own) (l : ℕ) (l-above : l ≡ boxesAbove (u .boxes) (u .place) d) where
-            l-is : l ≡ boxDepth d (u .depth - 1)
-            l-is = go-boxes d0 (omega (arith, some)) (up .place-is) (up .boxes-are) l-above
+        module _ {e : Four} (e-is : four e ≡ turned (suc (k - 1)) (four (u .entries))) {own : ℕ} (own-is : OwnIs e own) {l : ℕ} (l-above : l ≡ boxesAbove (u .boxes) (u .place) a) where
+          l-is : l ≡ boxDepth d (u .depth - 1)
+          l-is = go-boxes d0 (omega (arith, some)) (r .place-is) (r .boxes-are) (rw axes at l-above)
 
-            pub after-fill : (l ≤ halvings) × (own < 16)
-            after-fill = (rw l-is (on-boxes (y .stands) (y .n) D (y .depth-is) (y .deep) u mine some), on-own (y .stands) (y .n) D (y .depth-is) (y .deep) u mine some k k-is e e-is own own-is)
+          pub after-fill : (l ≤ halvings) × (own < 16)
+          after-fill = (rw l-is (on-boxes (r .ready .stands) (r .ready .n) D (r .ready .depth-is) (r .ready .deep) u mine some), on-own (r .ready .stands) (r .ready .n) D (r .ready .depth-is) (r .ready .deep) u mine some k k-is e e-is own own-is)
 
-            pub after-on : (boxes : ℕ) → digits halvings boxes ≡ take l (digits halvings (s .boxes)) ++ replicate (halvings - l) own
-                → AfterIs d s D (record { more = true; next = nextOf e boxes (u .depth) (u .path + 1) })
-            after-on boxes b = record { gone = λ root p n st f. on-stands st n D f (y .deep) u (up-at root p n st f) some k k-is e e-is own own-is boxes (rw l-is at b) }
+          pub after-on : {boxes : ℕ} → digits halvings boxes ≡ take l (digits halvings (s .boxes)) ++ replicate (halvings - l) own
+              → AfterIs d s D (record { more = true; next = nextOf e boxes (u .depth) (u .path + 1) })
+          after-on {boxes} b = record { gone = λ root p n st f. on-stands st n D f (r .ready .deep) u (r .cells root p n st f) some k k-is e e-is own own-is boxes (rw l-is at b) }

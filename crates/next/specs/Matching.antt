@@ -1,25 +1,27 @@
 -- The laws of `matches`. A code of the cell or of a first one inside it fixes the bytes: the dimension, a depth, the cell's
 -- entries, and the front of its orthants. So each test is passed by such bytes, and bytes that pass them all are such a code.
 use mathlib.Core.Path.{_≡_, refl, sym, ap, _∙_, subst}
-use mathlib.Core.Bool.{Bool}
+use mathlib.Core.Bool.{Bool, true, false, not}
 use mathlib.Core.List.{List, [], _∷_, _++_, append-assoc}
-use Prim.Native.Nat.{ℕ, zero, suc, _+_, _-_, _/_, _≤_}
+use Prim.Native.Nat.{ℕ, zero, suc, _+_, _-_, _/_, _^_, _≤_, _<_}
 use native.Mathlib.Omega.{arith}
 use lib.ListN.{length, getD, take, drop, length-take, length-drop, length-append}
 use lib.Seq.{paste, take-add, take-at, drop-at, drop-drop}
 use Rattle.dimension.specs.Sizes.{codeLength, greatestDepth, halvings, boxDepth}
-use Rattle.dimension.specs.Laws.{box-in}
+use lib.Dec.{T}
+use borrow.Author.Tests.{not-true, not-false}
+use Rattle.dimension.specs.Laws.{Dimension, box-in, boxes-few}
 use Rattle.bisection.specs.Codes.{dimensionOf, depthOf, bytes, codeOf}
 use Rattle.codes.specs.Fronts.{frontLength, frontCode}
 use Rattle.codes.specs.Fronts.Laws.{front-length, front-is-front, front-code-rest}
 use Rattle.fours.specs.declared.Four.{Four}
-use Rattle.fours.specs.Fours.{four, noEntries}
+use Rattle.fours.specs.Fours.{four, noEntries, SameFour}
 use Rattle.fours.specs.Laws.{held-same, pasted}
 use Rattle.next.specs.declared.Next.{Next}
 use Rattle.next.specs.declared.Match.{Match}
 use Rattle.next.specs.Paths.{steps, steps-length, steps-good, zeros, zeros-length}
 use Rattle.next.specs.Names.{nameAt, allBoxes, rooted-some, name-is, name-passes-at, zeros-entries, zeros-front}
-use Rattle.next.specs.Digits.{digits, digits-take}
+use Rattle.next.specs.Digits.{digits, digits-take, SameDigits}
 use Rattle.next.specs.Nexts.{entriesOf, Stands, First, Matched, MatchIs, AfterReady}
 
 -- the bytes of the code of depth D, and a rest
@@ -113,8 +115,37 @@ module _ {d : ℕ} {s : Next} {bs : List ℕ} (h : Shaped d s bs) where
       drop-2 l = drop-drop d 2 l
 
 -- a test that fails
-pub not-matched : {d : ℕ} {s : Next} {bs : List ℕ} → (Shaped d s bs → ⊥) → MatchIs d s bs (record { length = 0; depth = 0; boxes = 0 })
+not-matched : {d : ℕ} {s : Next} {bs : List ℕ} → (Shaped d s bs → ⊥) → MatchIs d s bs (record { length = 0; depth = 0; boxes = 0 })
 not-matched n = record { room = omega arith; hit = λ root p st q. absurd (q refl); told = λ root p st f. absurd (n (first-shaped st f)) }
+
+false-true : {t : Bool} → not t ≡ true → t ≡ true → ⊥
+false-true {t} n e = subst T (sym e ∙ not-true t n) tt
+
+-- a is the number of axes, D the depth and L the number of boxes, as `matches` has them
+module _ {d : ℕ} {s : Next} {bs : List ℕ} where
+  pub other-dimension : {a x : ℕ} → a ≡ d → x ≡ getD bs 0 0 → (x ≡ a → ⊥) → MatchIs d s bs (record { length = 0; depth = 0; boxes = 0 })
+  other-dimension e f n = not-matched (λ h. n (f ∙ shaped-dimension h ∙ sym e))
+
+  module _ {D : ℕ} (deep : D ≡ getD bs 1 0) where
+    pub not-inside : D < s .depth → MatchIs d s bs (record { length = 0; depth = 0; boxes = 0 })
+    not-inside l = not-matched (λ h. omega (arith, deep, shaped-depth h, h .above))
+
+    pub too-deep : {most : ℕ} → most ≡ greatestDepth d → most < D → MatchIs d s bs (record { length = 0; depth = 0; boxes = 0 })
+    too-deep e l = not-matched (λ h. omega (arith, e, deep, shaped-depth h, h .deep))
+
+    module _ {a L : ℕ} (axes : a ≡ d) (boxes : L ≡ boxDepth d D) where
+      pub no-room : length bs < 2 + a + L → MatchIs d s bs (record { length = 0; depth = 0; boxes = 0 })
+      no-room l = not-matched (λ h. omega (arith, axes, boxes, ap (boxDepth d) (deep ∙ shaped-depth h), shaped-room h))
+
+      pub other-boxes : {r : Bool} → SameDigits L (take L (drop (2 + a) bs)) (s .boxes) r → not r ≡ true → MatchIs d s bs (record { length = 0; depth = 0; boxes = 0 })
+      other-boxes t n = not-matched (λ h. false-true n (t .told (rw (axes, boxes, deep, shaped-depth h) (shaped-boxes h))))
+
+  pub other-entries : {a : ℕ} {x es : Four} {r : Bool} → a ≡ d → four x ≡ paste noEntries 0 (drop 2 bs) a → es ≡ entriesOf s → SameFour x es r → not r ≡ true
+      → MatchIs d s bs (record { length = 0; depth = 0; boxes = 0 })
+  other-entries {x = x} e f g t n = not-matched (λ h. false-true n (t .told (rw g (shaped-entries h x (rw e at f)))))
+
+pub length-fits : {d a D most L : ℕ} → a ≡ d → Dimension d → most ≡ greatestDepth d → D ≤ most → L ≡ boxDepth d D → 2 + a + L < 2 ^ 64
+length-fits {d} {D = D} e n f h g = omega (arith, e, n .few, g, boxes-few d D n (rw f at h))
 
 -- all tests pass
 module _ {d : ℕ} (s : Next) (D L : ℕ) (bs : List ℕ) (dim : getD bs 0 0 ≡ d) (dep : getD bs 1 0 ≡ D) (boxes : L ≡ boxDepth d D) (above : s .depth ≤ D) (deep : D ≤ greatestDepth d)
@@ -139,7 +170,7 @@ module _ {d : ℕ} (s : Next) (D L : ℕ) (bs : List ℕ) (dim : getD bs 0 0 ≡
       two = first-two bs (omega arith) ∙ rw (dim, dep) refl
 
   module _ (x : Four) (x-is : four x ≡ paste noEntries 0 (drop 2 bs) d) (same : four x ≡ four (entriesOf s)) (alike : take L (drop (2 + d) bs) ≡ digits L (s .boxes)) where
-    pub matched : MatchIs d s bs (record { length = 2 + d + L; depth = D; boxes = L })
+    matched : MatchIs d s bs (record { length = 2 + d + L; depth = D; boxes = L })
     matched = record { room = room; hit = λ root p st q. hit root p st; told = λ root p st f q. omega (arith, q) }
       where
         hit : (root : List ℕ) (p : List Bool) → Stands d s root p → Matched root p bs (record { length = 2 + d + L; depth = D; boxes = L })
@@ -173,6 +204,13 @@ module _ {d : ℕ} (s : Next) (D L : ℕ) (bs : List ℕ) (dim : getD bs 0 0 ≡
 
             code : codeOf root (steps (zeros (D - length p) p)) ≡ d ∷ D ∷ (es st ++ digits (boxDepth d D) (s .boxes))
             code = code-bytes st (D - length p) (rw whole deep) ∙ rw whole refl
+
+pub all-matched : {d a x D most L : ℕ} {s : Next} {bs : List ℕ} {f es : Four} {r t : Bool} → a ≡ d → x ≡ getD bs 0 0 → x ≡ a → D ≡ getD bs 1 0 → s .depth ≤ D → most ≡ greatestDepth d → D ≤ most
+    → L ≡ boxDepth d D → 2 + a + L ≤ length bs → four f ≡ paste noEntries 0 (drop 2 bs) a → es ≡ entriesOf s → SameFour f es r → not r ≡ false
+    → SameDigits L (take L (drop (2 + a) bs)) (s .boxes) t → not t ≡ false → MatchIs d s bs (record { length = 2 + a + L; depth = D; boxes = L })
+all-matched {d} {D = D} {L = L} {s = s} {bs = bs} {f = f} {r = r} {t = t} axes x-is x-a dep above most deep boxes room f-is es-are same r-is alike t-is =
+    subst (λ (n : ℕ). MatchIs d s bs (record { length = 2 + n + L; depth = D; boxes = L })) (sym axes)
+    (matched s D L bs (sym x-is ∙ x-a ∙ axes) (sym dep) boxes above (rw most at deep) (rw axes at room) f (rw axes at f-is) ((rw es-are at same) .equal (not-false r r-is)) (rw axes at (alike .equal (not-false t t-is))))
 
 -- what matches is ready for the next
 pub matched-ready : {d : ℕ} {s : Next} {root : List ℕ} {p : List Bool} {bs : List ℕ} {r : Match} → Stands d s root p → Matched root p bs r → AfterReady d s (r .depth)

@@ -20,6 +20,7 @@ use Rattle.positions.specs.Positions.{startOf}
 use Rattle.positions.specs.RootNumbers.{roots-good, roots-length, roots-count}
 use Rattle.fours.specs.declared.Four.{Four}
 use Rattle.fours.specs.Fours.{four, noEntries}
+use Rattle.fours.specs.Laws.{fourOf}
 use Rattle.next.specs.declared.Next.{Next}
 use Rattle.next.specs.Paths.{steps, number, start-number}
 use Rattle.next.specs.Names.{nameAt, allBoxes, Rooted, rooted-range, rooted-some, name-passes-at}
@@ -78,8 +79,8 @@ module _ (dim : Dim) (n : ℕ) {c p : ℕ} (c-is : c ≡ rootCount (axesOf dim))
   abbrev read : ℕ → ℕ
   read place = getD (getD (roots (axesOf dim)) p []) place 0
 
-  pub first-is : (e : Four) → e .first ≡ read 0 → e .second ≡ read 1 → e .third ≡ read 2 → e .fourth ≡ read 3 → FirstIs (axesOf dim) n (nextOf e 0 0 0)
-  first-is e x y z u = record { first = λ h. root-stands (axesOf dim) n (axes-dimension dim) h e (rw (x, y, z, u, own h) refl) }
+  pub first-is : {a b d e : ℕ} → a ≡ read 0 → b ≡ read 1 → d ≡ read 2 → e ≡ read 3 → FirstIs (axesOf dim) n (nextOf (fourOf a b d e) 0 0 0)
+  first-is {a} {b} {d} {e} x y z u = record { first = λ h. root-stands (axesOf dim) n (axes-dimension dim) h (fourOf a b d e) (rw (x, y, z, u, own h) refl) }
     where
       own : n < length (roots (axesOf dim)) → p ≡ n
       own h = rw (p-is, c-is) (place-under n (rootCount (axesOf dim)) (subst (λ (m : ℕ). n < m) (roots-count (axesOf dim)) h))

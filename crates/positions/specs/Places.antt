@@ -20,56 +20,74 @@ use Rattle.positions.specs.Positions.{startOf, sizeOf, PositionIs}
 use Rattle.positions.specs.RootNumbers.{numberIn, number-front, numbered}
 use Rattle.positions.specs.Walks.{WalkReady, Reached}
 
--- d and D are the dimension and the depth as the code has them
-module _ (code : List ℕ) (e : codeRefusal code ≡ done) (d D : ℕ) (ax : d ≡ dimensionOf code) (dp : D ≡ depthOf code) where
+-- d and D are the dimension and the depth, read from the code
+module _ (code : List ℕ) (e : codeRefusal code ≡ done) {d D : ℕ} (first : d ≡ getD code 0 0) (second : D ≡ getD code 1 0) where
   k : Checked code
   k = checked code e
 
-  pub place-entries : (2 ≤ d) × (d ≤ 4) × (2 + d ≤ length code)
-  place-entries = code-axes code e ax dp refl
+  c : IsCodeOf code (rootOf code) (pathOf code)
+  c = code-path code e
 
-  pub place-deep : D ≤ greatestDepth d
-  place-deep = rw (ax, dp) (k .good .depth)
+  ax : d ≡ dimensionOf code
+  unfolding dimensionOf
+  ax = first
 
-  pub place-small : greatestDepth d ≤ 60
-  place-small = rw ax (depth-small (dimensionOf code) (k .range))
+  dp : D ≡ depthOf code
+  unfolding depthOf
+  dp = second
 
-  module _ {from : Four} (f : four from ≡ paste noEntries 0 (drop 2 code) d) where
-    -- the path is found on the way, and written nowhere: a list of zeros stands for its buffer
-    pub place-ready : (size : ℕ) → size ≡ 2 ^ (greatestDepth d - D) → WalkReady d D code (four from) size
-    place-ready size s = record { climb = up-ready code e ax dp f (replicate D 0) (omega (arith, length-replicate {A = ℕ} D 0)); depth = place-deep; small = place-small; size-is = s }
+  pub place-deep : {most : ℕ} → most ≡ greatestDepth d → D ≤ most
+  place-deep g = rw (g, ax, dp) (k .good .depth)
 
-    module _ (root : List ℕ) (start : ℕ) (w : Reached d D code (four from) root start) where
-      c : IsCodeOf code (rootOf code) (pathOf code)
-      c = code-path code e
+  small : greatestDepth d ≤ 60
+  small = rw ax (depth-small (dimensionOf code) (k .range))
 
-      root-size : length (rootOf code) ≡ d
-      root-size = length-root c ∙ sym ax
+  pub place-small : {most : ℕ} → most ≡ greatestDepth d → most - D ≤ 60
+  place-small g = omega (arith, g, small)
 
-      path-size : length (pathOf code) ≡ D
-      path-size = length-path-of c ∙ sym dp
+  module _ {n : ℕ} (same : n ≡ d) where
+    axes : (2 ≤ n) × (n ≤ 4) × (2 + n ≤ length code)
+    axes = rw same (code-axes code e ax dp refl)
 
-      pub place-room : d ≤ length root
-      place-room = omega (arith, w .climbed .root-size, place-entries)
+    pub place-two : 2 ≤ n
+    place-two = axes .0
 
-      path-is : take D (w .path) ≡ pathOf code
-      path-is = ap (take D) (up-path code e ax dp f (w .climbed)) ∙ take-at (pathOf code) (drop D (replicate D 0)) D path-size
+    pub place-few : n ≤ 4
+    place-few = axes .1
 
-      pub place-is : (n size : ℕ) → n ≡ numberIn d root d → size ≡ 2 ^ (greatestDepth d - D) → PositionIs code (record { root = n; start = start; size = size })
-      unfolding sizeOf
-      place-is n size g s = record {
-        root = rootOf code;
-        path = pathOf code;
-        code-of = c;
-        number = subst (λ (m : ℕ). m < length (roots (length (rootOf code)))) (sym is′) (numbered (rootOf code) (c .good-root .permutation) .small);
-        root-is = ap (λ (m : ℕ). getD (roots (length (rootOf code))) m []) is′ ∙ numbered (rootOf code) (c .good-root .permutation) .is;
-        start-is = w .start-is ∙ ap (startOf (greatestDepth d)) path-is ∙ ap (λ (m : ℕ). startOf m (pathOf code)) (ap greatestDepth (sym root-size));
-        size-is = s ∙ ap (λ (m : ℕ). 2 ^ (greatestDepth m - D)) (sym root-size) ∙ ap (λ (m : ℕ). 2 ^ (greatestDepth (length (rootOf code)) - m)) (sym path-size);
-      }
-        where
-          is : n ≡ numberIn d (rootOf code) d
-          is = g ∙ ap (λ (l : List ℕ). numberIn d l d) (sym (take-append-drop d root) ∙ ap (λ (l : List ℕ). l ++ drop d root) (up-root code e ax dp f (w .climbed)))
-              ∙ number-front (rootOf code) (drop d root) d d (sym root-size) (omega arith)
+    pub place-long : 2 + n ≤ length code
+    place-long = axes .2
 
-          is′ : n ≡ numberIn (length (rootOf code)) (rootOf code) (length (rootOf code))
-          is′ = is ∙ ap (λ (m : ℕ). numberIn m (rootOf code) m) (sym root-size)
+    module _ {from : Four} (f : four from ≡ paste noEntries 0 (drop 2 code) n) {most size : ℕ} (g : most ≡ greatestDepth d) (s : size ≡ 2 ^ (most - D)) where
+      f-is : four from ≡ paste noEntries 0 (drop 2 code) d
+      f-is = rw same at f
+
+      -- the path is found on the way, and written nowhere: a list of zeros stands for its buffer
+      pub place-ready : WalkReady d D code (four from) size
+      place-ready = record { climb = up-ready code e ax dp f-is (replicate D 0) (omega (arith, length-replicate {A = ℕ} D 0)); depth = place-deep refl; small = small; size-is = rw g at s }
+
+      module _ {root : List ℕ} {start : ℕ} (w : Reached d D code (four from) root start) where
+        root-size : length (rootOf code) ≡ d
+        root-size = length-root c ∙ sym ax
+
+        path-size : length (pathOf code) ≡ D
+        path-size = length-path-of c ∙ sym dp
+
+        path-is : take D (w .path) ≡ pathOf code
+        path-is = ap (take D) (up-path code e ax dp f-is (w .climbed)) ∙ take-at (pathOf code) (drop D (replicate D 0)) D path-size
+
+        pub place-is : {number : ℕ} → number ≡ numberIn n root n → PositionIs code (record { root = number; start = start; size = size })
+        unfolding sizeOf
+        place-is {number} q = record {
+          root = rootOf code;
+          path = pathOf code;
+          code-of = c;
+          number = subst (λ (m : ℕ). m < length (roots (length (rootOf code)))) (sym is) (numbered (rootOf code) (c .good-root .permutation) .small);
+          root-is = ap (λ (m : ℕ). getD (roots (length (rootOf code))) m []) is ∙ numbered (rootOf code) (c .good-root .permutation) .is;
+          start-is = w .start-is ∙ ap (startOf (greatestDepth d)) path-is ∙ ap (λ (m : ℕ). startOf m (pathOf code)) (ap greatestDepth (sym root-size));
+          size-is = s ∙ rw (g, root-size, path-size) refl;
+        }
+          where
+            is : number ≡ numberIn (length (rootOf code)) (rootOf code) (length (rootOf code))
+            is = q ∙ rw same (ap (λ (l : List ℕ). numberIn d l d) (sym (take-append-drop d root) ∙ ap (λ (l : List ℕ). l ++ drop d root) (up-root code e ax dp f-is (w .climbed)))
+                ∙ number-front (rootOf code) (drop d root) d d (sym root-size) (omega arith)) ∙ ap (λ (m : ℕ). numberIn m (rootOf code) m) (sym root-size)

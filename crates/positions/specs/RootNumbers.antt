@@ -7,6 +7,7 @@ use Prim.Native.Nat.{ℕ, zero, suc, _+_, _-_, _*_, _^_, _≤_, _<_}
 use native.Mathlib.Omega.{arith}
 use native.Mathlib.Decide.{ℕ-discrete}
 use native.Mathlib.Nat.{le-refl, mul-le-mul-left}
+use native.Mathlib.Numerals.{add-one}
 use lib.Pow.{pow-lt}
 use lib.Dec.{ltb}
 use lib.ListN.{length, getD, drop, length-drop, drop-of-length-le, List·getD-append}
@@ -63,15 +64,29 @@ number-under d root (suc i) h = rw more (omega (arith, step (numberIn d root i) 
     step : (x y s p : ℕ) → x + 1 ≤ p → y ≤ 4 → s ≤ 4 → x * y + s + 1 ≤ 2 * (2 * (2 * p))
     step x y s p a b c = omega (arith, mul-le-mul-left x b)
 
-pub number-few : (d : ℕ) (root : List ℕ) (i : ℕ) → d ≤ 4 → i ≤ 4 → numberIn d root i < 2 ^ 13
-number-few d root i h l = omega (arith, number-under d root i h, pow-lt {i = 3 * i} {j = 13} (omega arith))
+-- the loop that numbers a root: n is the number that the first i entries give
+pub record Numbering (d : ℕ) (root : List ℕ) (n i : ℕ) : Type 0 where
+  pub few : d ≤ 4
+  pub inside : i ≤ d
+  pub is : n ≡ numberIn d root i
 
-pub number-times : (x y : ℕ) → x < 2 ^ 13 → y ≤ 4 → x * y < 2 ^ 15
-number-times x y a b = omega (arith, mul-le-mul-left x b)
-
-pub number-more : (d : ℕ) (root : List ℕ) (i n s : ℕ) → n ≡ numberIn d root i → s ≡ smallerIn root i d → n * (d - i) + s ≡ numberIn d root (suc i)
+pub numbering-start : {d : ℕ} {root : List ℕ} → d ≤ 4 → Numbering d root 0 0
 unfolding numberIn
-number-more d root i n s e f = rw (e, f) refl
+numbering-start h = record { few = h; inside = omega arith; is = refl }
+
+module _ {d : ℕ} {root : List ℕ} {n i : ℕ} (k : Numbering d root n i) where
+  pub numbering-times : n * (d - i) < 2 ^ 15
+  numbering-times = let four : d - i ≤ 4 = omega (arith, k .few) in omega (arith, mul-le-mul-left n four, k .is, number-under d root i (k .few), pow-lt {i = 3 * i} {j = 13} (omega (arith, k .inside, k .few)))
+
+  pub numbering-sum : {s : ℕ} → s ≡ smallerIn root i d → n * (d - i) + s < 2 ^ 16
+  numbering-sum e = omega (arith, numbering-times, e, smaller-few root i d, k .few)
+
+  pub numbering-next : {s : ℕ} → i < d → s ≡ smallerIn root i d → Numbering d root (n * (d - i) + s) (i + 1)
+  unfolding numberIn
+  numbering-next h e = record { few = k .few; inside = omega arith; is = rw (add-one i, k .is, e) refl }
+
+  pub numbering-end : d ≤ i → n ≡ numberIn d root d
+  numbering-end h = k .is ∙ ap (numberIn d root) (omega (arith, k .inside))
 
 -- the number looks at the front alone
 smaller-front : (root rest : List ℕ) (i j : ℕ) → i < length root → j ≤ length root → smallerIn (root ++ rest) i j ≡ smallerIn root i j

@@ -67,8 +67,11 @@ times-one (suc zero) half h = omega arith
 times-one (suc (suc b)) half h = absurd (omega arith)
 
 module _ {d D : ℕ} {code root : List ℕ} {t k boxes : ℕ} {root' : List ℕ} {start half : ℕ} (w : Walked d D code root t k boxes root' start half) (pos : 0 < t) where
-  pub half-small : half < 2 ^ 60
+  half-small : half < 2 ^ 60
   half-small = rw (w .half-is) (pow-lt {i = greatestDepth d - t} {j = 60} (omega (arith, w .small)))
+
+  pub walk-double : half * 2 < 2 ^ 64
+  walk-double = omega (arith, half-small)
 
   -- x is the step as a word
   module _ {n own b x : ℕ} {r : List ℕ} (s : BackIs n own root' b r) (e : x ≡ b) where

@@ -15,29 +15,17 @@ Inv-loop root i d n₀ j₀ n j = (i < j) × (j ≤ d) × (n ≡ smallerIn root 
 abbrev μ-loop : tie.MeasureT-loop
 μ-loop root i d n₀ j₀ n j = d - j
 
-add-n : tie.Need-add-n Inv-loop μ-loop
-add-n c =
-    let args = c .before .before .before .before .before .args in
-    let loop = c .before .before .before .before .loop in
-    omega (arith, smaller-few (args .root .now) (args .i) (loop .j), loop .inv .2)
-
 loop-again : tie.Need-loop-again Inv-loop μ-loop
 loop-again c =
-    let args = c .before .before .before .before .before .args in
-    let loop = c .before .before .before .before .loop in (
+    let turn : tie.At-loop Inv-loop μ-loop = search in
+    let counted = turn .loop .inv .2 in (
       omega arith,
       omega arith,
       rw add-one (⊎-elim
-          (λ w. w .1 ∙ ap (λ (k : ℕ). k + 1) (loop .inv .2) ∙ sym (smaller-more (args .root .now) (args .i) (loop .j) (loop .inv .0) (w .0 .taken)))
-          (λ w. w .1 ∙ loop .inv .2 ∙ sym (smaller-same (args .root .now) (args .i) (loop .j) (loop .inv .0) (w .0 .left)))
+          (λ w. w .1 ∙ ap (λ (k : ℕ). k + 1) counted ∙ sym (smaller-more _ _ _ (turn .loop .inv .0) (w .0 .taken)))
+          (λ w. w .1 ∙ counted ∙ sym (smaller-same _ _ _ (turn .loop .inv .0) (w .0 .left)))
           (c .if1 .came)),
     )
-
-returns : tie.Need-returns Inv-loop μ-loop
-returns c =
-    let args = c .before .before .args in
-    let e : c .before .loop .j ≡ args .d = omega (arith, c .loop-test .left, c .before .loop .inv .1) in c .before .loop .inv .2 ∙ ap
-    (smallerIn (args .root .now) (args .i)) e
 
 pub smaller-spec : {M : Type 1} → statement M
 smaller-spec =
@@ -49,8 +37,8 @@ smaller-spec =
     (λ c. (omega arith, omega arith, sym (smaller-none (c .args .root .now) (c .args .i) (c .args .i + 1) (omega arith))))
     (λ c. search needs)
     (λ c. search needs)
-    add-n
+    (λ c. let turn : tie.At-loop Inv-loop μ-loop = search in omega (arith, smaller-few (turn .before .args .root .now) (turn .before .args .i) (turn .loop .j), turn .loop .inv .2))
     (λ c. search needs)
     (λ c. search needs)
     loop-again
-    returns)
+    (λ c. c .before .loop .inv .2 ∙ ap (smallerIn _ _) (omega (arith, c .loop-test .left, c .before .loop .inv .1))))

@@ -3,7 +3,7 @@
 use mathlib.Core.List.{[], _∷_}
 use native.Mathlib.Omega.{arith}
 use Rattle.steps.specs.Climbs.{rise-boxes, rise-place, rise-room, rise-some, rise-ready}
-use Rattle.positions.specs.Walks.{Walked, walk-none, walk-next, walk-done, walk-weight, walk-start, half-small}
+use Rattle.positions.specs.Walks.{Walked, walk-none, walk-next, walk-done, walk-weight, walk-start, walk-double}
 use borrow.Author.Needs.{needs}
 use Rattle.positions.proofs.walk.Statement.{statement}
 use Rattle.positions.proofs.walk.Tie as tie
@@ -15,66 +15,11 @@ Inv-loop code depth size axes first₀ second₀ third₀ fourth₀ k₀ boxes�
 abbrev μ-loop : tie.MeasureT-loop
 μ-loop code depth size axes first₀ second₀ third₀ fourth₀ k₀ boxes₀ start₀ half₀ t₀ first second third fourth k boxes start half t = t
 
-loop-holds : tie.Need-loop-holds Inv-loop μ-loop
-loop-holds c =
-    let pre = c .before .before .before .before .pre in
-    let axes = c .before .before .axes in
-    walk-none pre (axes .ensures) (c .before .split-place .ensures) (c .box-depth .ensures)
-
-place-above-requires : tie.Need-place-above-requires Inv-loop μ-loop
-place-above-requires c κs =
-    let loop = c .before .before .loop in
-    rise-place (loop .inv .rising) (c .before .loop-test .taken)
-
-own-of-requires : tie.Need-own-of-requires Inv-loop μ-loop
-own-of-requires c κs =
-    let loop = c .before .before .before .loop in
-    let loop-test = c .before .before .loop-test in
-    rise-room (loop .inv .rising) (loop-test .taken) (c .before .boxes-above .ensures)
-
-sub-unstep : tie.Need-sub-unstep Inv-loop μ-loop
-sub-unstep c =
-    let loop = c .before .before .before .before .loop in
-    let loop-test = c .before .before .before .loop-test in
-    rise-some (loop .inv .rising) (loop-test .taken) (c .before .place-above .ensures)
-
-unstep-requires : tie.Need-unstep-requires Inv-loop μ-loop
-unstep-requires c κs =
-    let loop = c .before .before .before .before .loop in
-    let loop-test = c .before .before .before .loop-test in
-    rise-ready (loop .inv .rising) (loop-test .taken) (c .before .place-above .ensures)
-
-mul-start : tie.Need-mul-start Inv-loop μ-loop
-mul-start c =
-    let loop = c .before .before .before .before .before .before .loop in
-    let loop-test = c .before .before .before .before .before .loop-test in
-    let h = walk-weight (loop .inv) (loop-test .taken) (c .before .unstep .ensures) (c .wide .ensures) in omega (arith, h)
-
-add-start : tie.Need-add-start Inv-loop μ-loop
-add-start c =
-    let loop = c .before .before .before .before .before .before .loop in
-    let loop-test = c .before .before .before .before .before .loop-test in
-    let h = walk-start (loop .inv) (loop-test .taken) (c .before .unstep .ensures) (c .wide .ensures) in omega (arith, h)
-
-mul-half : tie.Need-mul-half Inv-loop μ-loop
-mul-half c =
-    let loop = c .before .before .before .before .before .before .loop in
-    let loop-test = c .before .before .before .before .before .loop-test in
-    let h = half-small (loop .inv) (loop-test .taken) in omega (arith, h)
-
-loop-again : tie.Need-loop-again Inv-loop μ-loop
-loop-again c =
-    let loop = c .before .before .before .before .before .before .loop in
-    let loop-test = c .before .before .before .before .before .loop-test in
-    let place-above = c .before .before .before .place-above in
-    let boxes-above = c .before .before .before .before .boxes-above in
-    let own-of = c .before .before .own-of in
-    walk-next (loop .inv) (loop-test .taken) (place-above .ensures) (boxes-above .ensures) (own-of .ensures) (c .before .unstep .ensures) (c .wide .ensures)
-
-returns : tie.Need-returns Inv-loop μ-loop
-returns c =
-    let axes = c .before .before .before .before .axes in
-    walk-done (c .before .loop .inv) (axes .ensures) (c .loop-test .left)
+turn-requires : tie.Need-unstep-requires Inv-loop μ-loop
+turn-requires c κs =
+    let turn : tie.In-loop Inv-loop μ-loop = search in
+    let above : tie.After-place-above Inv-loop μ-loop = search in
+    rise-ready (turn .before .loop .inv .rising) (turn .loop-test .taken) (above .place-above .ensures)
 
 pub walk-spec : {M : Type 1} → statement M
 walk-spec =
@@ -85,17 +30,17 @@ walk-spec =
     (λ c κs. search needs)
     (λ c κs. search needs)
     (λ c κs. search needs)
-    loop-holds
+    (λ c. search (needs, walk-none))
     (λ c. search needs)
-    (λ c κs. rise-boxes (c .before .loop .inv .rising) (c .loop-test .taken))
-    place-above-requires
-    own-of-requires
-    sub-unstep
-    unstep-requires
+    (λ c κs. search (needs, rise-boxes))
+    (λ c κs. search (needs, rise-place))
+    (λ c κs. search (needs, rise-room))
+    (λ c. search (needs, rise-some))
+    turn-requires
     (λ c κs. search needs)
-    mul-start
-    add-start
-    mul-half
+    (λ c. search (needs, walk-weight))
+    (λ c. search (needs, walk-start))
+    (λ c. search (needs, walk-double))
     (λ c. search needs)
-    loop-again
-    returns)
+    (λ c. search (needs, walk-next))
+    (λ c. search (needs, walk-done)))
