@@ -22,12 +22,12 @@ use Rattle.codes.specs.PathAnswers.{good-root, code-of-length}
 use Rattle.codes.specs.ChildAnswers.{child-of, child-length}
 use Rattle.codes.specs.Writing.{done-writes, done-answers}
 use Rattle.crossing.specs.Outcome.{crossed, wall}
-use Rattle.sheets.specs.Sheets.{sheetMark, sampleWidth, GoodSheet, good}
+use Rattle.sheets.specs.Sheets.{sheetMark, sampleWidth, samplesOf, GoodSheet, good, Good, sheet-good}
 use Rattle.listing.specs.Texts.{Listing}
 use Rattle.points.specs.Points.{pointOf, isPoint}
 use Rattle.greys.specs.Samples.{greySum}
 use Rattle.greys.specs.Exact.{fraction-same, whole-fraction}
-use Rattle.queries.specs.Queries.{sideIn, LeafAt, LeafWeights, samplesOf, weightsLength, leafRefusal, Good, leafTold, sheet-good, leaf-found, value-found}
+use Rattle.queries.specs.Queries.{sideIn, LeafAt, LeafWeights, weightsLength, leafRefusal, leafTold, leaf-found, value-found}
 use Rattle.demands.specs.Rows.{Row, path-to-code, vertices, code-check, child-at, cross, walled, sheet-check, listing, leaf-at, value-at, Answered, Holds, Every}
 
 -- a root and a path that are not refused, and their code

@@ -19,7 +19,7 @@ use Rattle.demands.specs.Rows.{Row, path-to-code, vertices, code-check, 
 use Rattle.points.specs.Weights.{sumTo}
 use Rattle.points.specs.Points.{pointOf, isPoint}
 use Rattle.greys.specs.Samples.{greySum, sampleAt, lowFirst}
-use Rattle.queries.specs.Queries.{samplesOf}
+use Rattle.sheets.specs.Sheets.{samplesOf}
 use Rattle.demands.specs.PointTen.{weightsTen, ten-weighs, ten-leaf}
 use Rattle.demands.specs.Shown.{LeafShown, Shown, EveryShown, every}
 

@@ -15,7 +15,7 @@ use lib.Seq.{getD-drop, getD-take}
 use borrow.Author.Tests.{lt-ltb, le-ltb, lt-leb, le-leb, eq-eqb, ne-eqb, ltb-true}
 use Rattle.bisection.specs.Codes.{axis, minus, high}
 use Rattle.bisection.specs.Refusals.{each, fresh, permutes, orthantsFit, ownMinus, sameSign, signsOwn, isRoot, isPath}
-use Rattle.bisection.specs.Theorems.Checked.{each-at, at-each, and-both}
+use Rattle.bisection.specs.Theorems.Checked.{each-at, at-each, and-both, each-fails}
 
 -- tests in a row: equal tests, one more, one that fails
 pub each-same : (n : ℕ) (f g : ℕ → Bool) → ((i : ℕ) → i < n → f i ≡ g i) → each n f ≡ each n g
@@ -26,13 +26,6 @@ each-same (suc n) f g e = rw (e n (omega arith), each-same n f g (λ i l. e i (o
 pub each-more : (n : ℕ) (f : ℕ → Bool) → each n f ≡ true → f n ≡ true → each (n + 1) f ≡ true
 unfolding each
 each-more n f e h = rw (add-one n) (and-both (f n) (each n f) h e)
-
-pub each-fails : (n : ℕ) (f : ℕ → Bool) (i : ℕ) → i < n → f i ≡ false → each n f ≡ false
-each-fails n f i l e = go (each n f) refl
-  where
-    go : (t : Bool) → each n f ≡ t → t ≡ false
-    go false q = refl
-    go true q = absurd (subst T (sym (each-at n f q i l) ∙ e) tt)
 
 -- the permutation: what has been seen before place i
 abbrev pub entryFits : ℕ → List ℕ → ℕ → Bool

@@ -23,7 +23,7 @@ use Rattle.sheets.specs.declared.SheetAnswer.{SheetAnswer}
 use Rattle.sheets.specs.declared.Edition.{Edition}
 use Rattle.sheets.specs.declared.RecordParts.{RecordParts}
 use Rattle.sheets.specs.Forests.{TreeCell}
-use Rattle.sheets.specs.Sheets.{SheetIs, good, record-refused, not-next, ended-early, recordRefusal, GoodSheet, sheetMark, sampleWidth}
+use Rattle.sheets.specs.Sheets.{SheetIs, good, record-refused, not-next, ended-early, recordRefusal, samplesOf, GoodSheet, leafIn, sheetMark, sampleWidth, Good, sheet-refused, sheet-good}
 use Rattle.sheets.specs.Steps.{markOf, IsFirst, PartsAre}
 use Rattle.sheets.specs.Theorems.FirstRecord.{first-record}
 use Rattle.sheets.specs.Theorems.Listing.{GoodCell}
@@ -39,52 +39,14 @@ use Rattle.greys.specs.Exact.{cube-power, power-some}
 use Rattle.greys.specs.Sums.{InRatio, grey-same, cube-weighable}
 use Rattle.greys.specs.declared.Value.{Value}
 use Rattle.greys.specs.declared.Value.the-variants.{Grey, Refused}
-use Rattle.queries.specs.declared.Opened.{Opened}
+use Rattle.finding.specs.declared.opened.Opened.{Opened}
+use Rattle.finding.specs.Opened.{OpenedIs, shut, checked, Checked, opened-checked}
 use Rattle.queries.specs.declared.Chosen.{Chosen}
 use Rattle.queries.specs.declared.LeafAnswer.{LeafAnswer}
-use Rattle.queries.specs.Queries.{leafIn, cellIn, sideIn, LeafAt, LeafWeights, samplesOf, weightsLength, leafRefusal, Good, leafTold, sheet-refused, sheet-good, leaf-refused, leaf-found, LeafIs, ValueOn, value-refused, value-found, ValueIs}
-use Rattle.queries.specs.Walk.{leaf-good}
+use Rattle.queries.specs.Queries.{cellIn, sideIn, LeafAt, LeafWeights, weightsLength, leafRefusal, leafTold, leaf-refused, leaf-found, LeafIs, ValueOn, value-refused, value-found, ValueIs}
+use Rattle.finding.specs.Walk.{leaf-good}
 use Rattle.queries.specs.Choice.{ChoiceReady, ChosenIs}
 use Rattle.queries.specs.Writing.{halved, weightBytes, WeightsReady, halved-at, halved-length, weights-length}
-
--- ---- the check of the whole sheet
-
--- a refusal with its offset, or the dimension of a good sheet
-pub data OpenedIs (sheet : List ℕ) (r : Opened) : Type 0 where
-  shut : {a : SheetAnswer} → SheetIs sheet a → a .refusal ≢ done → r ≡ record { refusal = a .refusal; offset = a .offset; dimension = 0 } → OpenedIs sheet r
-  checked : {n : ℕ} (g : Good sheet n) → r ≡ record { refusal = done; offset = 0; dimension = g .dimension } → OpenedIs sheet r
-
-pub record Known (sheet : List ℕ) : Type 0 where
-  pub count : ℕ
-  pub good-sheet : Good sheet count
-
-known : {sheet : List ℕ} {a : SheetAnswer} → SheetIs sheet a → a .refusal ≡ done → Known sheet
-known (good {n = n} g e) h = record { count = n; good-sheet = g }
-known (record-refused r l k e) h = absurd (k (sym (ap (λ (a : SheetAnswer). a .refusal) e) ∙ h))
-known (not-next r l k b e) h = absurd (omega (arith, ap (λ (a : SheetAnswer). a .refusal) e))
-known (ended-early r l k e) h = absurd (omega (arith, ap (λ (a : SheetAnswer). a .refusal) e))
-
-pub opened-shut : {sheet : List ℕ} {a : SheetAnswer} → SheetIs sheet a → (a .refusal ≡ 0 → ⊥) → OpenedIs sheet (record { refusal = a .refusal; offset = a .offset; dimension = 0 })
-opened-shut s k = shut s k refl
-
-module _ {sheet : List ℕ} {a : SheetAnswer} (s : SheetIs sheet a) (h : a .refusal ≡ 0) {e : Edition} (f : IsFirst e) where
-  of-edition : GoodSheet (markOf e) (e .width) sheet (known s h .count)
-  of-edition = rw (f .mark-is, f .width-is) (known s h .good-sheet)
-
-  pub opened-first : recordRefusal (markOf e) (e .width) sheet ≡ done
-  opened-first = first-record of-edition .passes
-
-  pub opened-good : {p : RecordParts} → PartsAre (markOf e) (e .width) sheet p → OpenedIs sheet (record { refusal = 0; offset = 0; dimension = p .dimension })
-  opened-good {p} are = checked g (ap (λ (d : ℕ). record { refusal = 0; offset = 0; dimension = d }) dimension-is)
-    where
-      g : Good sheet (known s h .count)
-      g = known s h .good-sheet
-
-      parts : PartsAre sheetMark sampleWidth sheet p
-      parts = subst (λ (w : ℕ). PartsAre sheetMark w sheet p) (f .width-is) (subst (λ (m : List ℕ). PartsAre m (e .width) sheet p) (f .mark-is) are)
-
-      dimension-is : p .dimension ≡ known s h .good-sheet .dimension
-      dimension-is = first-record (known s h .good-sheet) .dimension-is p parts
 
 -- ---- the edition of document 01
 
@@ -178,15 +140,6 @@ module _ {sheet point : List ℕ} {d : ℕ} {r : Chosen} (ready : ChoiceReady sh
 
 -- ---- a checked sheet
 
-pub record Checked (sheet : List ℕ) (d : ℕ) : Type 0 where
-  pub count : ℕ
-  pub good-sheet : Good sheet count
-  pub axes : good-sheet .dimension ≡ d
-
-pub opened-checked : {sheet : List ℕ} {o : Opened} → OpenedIs sheet o → o .refusal ≡ 0 → Checked sheet (o .dimension)
-opened-checked (shut s k e) h = absurd (k (sym (ap (λ (o : Opened). o .refusal) e) ∙ h))
-opened-checked (checked {n = n} g e) h = record { count = n; good-sheet = g; axes = sym (ap (λ (o : Opened). o .dimension) e) }
-
 module _ {sheet : List ℕ} {o : Opened} (s : OpenedIs sheet o) where
   pub value-shut : {point : List ℕ} → (o .refusal ≡ 0 → ⊥) → ValueIs sheet point (Refused (o .refusal) (o .offset))
   value-shut {point} k = go s
@@ -196,7 +149,7 @@ module _ {sheet : List ℕ} {o : Opened} (s : OpenedIs sheet o) where
       go (checked g e) = absurd (k (ap (λ (o : Opened). o .refusal) e))
 
   module _ (h : o .refusal ≡ 0) where
-    it : Checked sheet (o .dimension)
+    it : Checked sheet (o .dimension) (o .records)
     it = opened-checked s h
 
     pub opened-known : isDimension (o .dimension) ≡ true

@@ -10,7 +10,7 @@ use Rattle.dimension.specs.Sizes.{isDimension, cubeSide, greatestDepth, codeLen
 use Rattle.bisection.specs.Cells.{Point, cellOf}
 use Rattle.bisection.specs.Roots.{GoodRoot, roots}
 use Rattle.sheets.specs.Forests.{TreeCell, Leaves}
-use Rattle.sheets.specs.Sheets.{GoodSheet}
+use Rattle.sheets.specs.Sheets.{samplesOf, GoodSheet, leafIn}
 use Rattle.sheets.specs.Theorems.Listing.{GoodCell}
 use Rattle.points.specs.Weights.{Weighs}
 use Rattle.points.specs.Points.{pointOf, isPoint}
@@ -19,14 +19,15 @@ use Rattle.ways.specs.Ways.{Way, CellWeights, Reached, Begun, Descended, Locate
 use Rattle.ways.specs.WayLaws.{way-front, way-one}
 use Rattle.ways.specs.declared.Located.{Located}
 use Rattle.ways.specs.declared.Place.{Place}
-use Rattle.queries.specs.declared.Sought.{Sought}
-use Rattle.queries.specs.declared.Ahead.{Ahead}
+use Rattle.finding.specs.declared.Sought.{Sought}
+use Rattle.finding.specs.declared.Ahead.{Ahead}
 use Rattle.queries.specs.declared.Chosen.{Chosen}
-use Rattle.queries.specs.Queries.{leafIn, cellIn, LeafAt, samplesOf}
+use Rattle.queries.specs.Queries.{cellIn, LeafAt}
 use Rattle.queries.specs.Theorems.OnTheWay.{Found}
 use Rattle.queries.specs.Theorems.Sizes.{found, place-small, leaf-by-sizes, way-part}
-use Rattle.queries.specs.Walk.{leaf-good, Here, here}
-use Rattle.queries.specs.Seeks.{SeekReady, SoughtIs}
+use Rattle.finding.specs.Sizes.{sizesTo, sizes-none}
+use Rattle.finding.specs.Walk.{from-start, leaf-good, Here, here}
+use Rattle.finding.specs.Seeks.{SeekReady, SoughtIs}
 
 -- a good sheet of d axes, and a point of the cube
 pub record ChoiceReady (mark : List ℕ) (width : ℕ) (sheet : List ℕ) (d : ℕ) (point : List ℕ) : Type 0 where
@@ -65,13 +66,13 @@ module _ {mark : List ℕ} {width : ℕ} {sheet : List ℕ} {d : ℕ} {point : L
       leaves-in : Leaves (roots d) (greatestDepth d) (c .good .cells)
       leaves-in = subst (λ (n : ℕ). Leaves (roots n) (greatestDepth n) (c .good .cells)) (c .axes) (c .good .leaves)
 
-      pub choice-seek : SeekReady mark width sheet d (record { stretches = way .root; part = way .position })
-      choice-seek = record { count = c .count; good = c .good; axes = c .axes; part-small = way-part located-in; before-end = place-small choice-known leaves-in dims located-in }
+      pub choice-seek : SeekReady mark width sheet d 0 0 (record { stretches = way .root; part = way .position })
+      choice-seek = record { count = c .count; good = c .good; axes = c .axes; at = from-start (c .good); part-small = way-part located-in; before-end = omega (arith, place-small choice-known leaves-in dims located-in, sizes-none (greatestDepth d) (c .good .cells)) }
 
       pub choice-begun : Begun a (way .weights)
       choice-begun = record { root = _; p = _; weights = located .weights }
 
-      module _ {sought : Sought} (s : SoughtIs mark width sheet d (record { stretches = way .root; part = way .position }) sought) where
+      module _ {sought : Sought} (s : SoughtIs mark width sheet d 0 0 (record { stretches = way .root; part = way .position }) sought) where
         abbrev leaf : TreeCell
         leaf = leafIn (s .ready .good .cells) (sought .number)
 
@@ -79,7 +80,7 @@ module _ {mark : List ℕ} {width : ℕ} {sheet : List ℕ} {d : ℕ} {point : L
         leaves-of = subst (λ (n : ℕ). Leaves (roots n) (greatestDepth n) (s .ready .good .cells)) (s .ready .axes) (s .ready .good .leaves)
 
         cell : GoodCell (leaf) × (length (leaf .root) ≡ s .ready .good .dimension)
-        cell = leaf-good (s .ready .good) (sought .number) (s .small)
+        cell = leaf-good (s .ready .good) (sought .number) (s .holds .small)
 
         axes-of : length (leaf .root) ≡ d
         axes-of = cell .1 ∙ s .ready .axes
@@ -93,9 +94,12 @@ module _ {mark : List ℕ} {width : ℕ} {sheet : List ℕ} {d : ℕ} {point : L
         o : Found (s .ready .good .cells) (pointOf point) (getD (roots d) (way .root) []) (located-in .way)
         o = found choice-known leaves-of dims located-in
 
+        none-before : sizesTo (greatestDepth d) (s .ready .good .cells) 0 ≡ 0
+        none-before = sizes-none (greatestDepth d) (s .ready .good .cells)
+
         number-is : o .number ≡ sought .number
         unfolding o
-        number-is = leaf-by-sizes choice-known leaves-of dims located-in (sought .number) (s .small) (s .low) (s .high)
+        number-is = leaf-by-sizes choice-known leaves-of dims located-in (sought .number) (s .holds .small) (omega (arith, s .holds .low, none-before)) (omega (arith, s .holds .high, none-before))
 
         root-is : getD (roots d) (way .root) [] ≡ leaf .root
         root-is = sym (o .root-is) ∙ ap (λ (n : ℕ). leafIn (s .ready .good .cells) n .root) number-is
@@ -127,7 +131,7 @@ module _ {mark : List ℕ} {width : ℕ} {sheet : List ℕ} {d : ℕ} {point : L
               (subst (λ (r : List ℕ). CellWeights a r (reached .way) (pointOf point) (there .weights)) root-of (reached .weights))
 
           it : Here (s .ready .good) (sought .number) (sought .offset)
-          it = here (s .ready .good) (s .small) (s .at)
+          it = here (s .ready .good) (s .holds .small) (s .at)
 
           module _ {code : ℕ} (code-is : code ≡ codeLength a (sought .depth)) where
             head-is : length mark + codeLength (s .ready .good .dimension) (length (leaf .path)) ≡ length mark + code

@@ -18,9 +18,9 @@ use Rattle.bisection.specs.Refusals.{done, need, refusedShort}
 use Rattle.bisection.specs.Theorems.CodePaths.{some-axes}
 use Rattle.bisection.specs.Theorems.Ladders.{held-at}
 use Rattle.sheets.specs.Forests.{TreeCell}
-use Rattle.sheets.specs.Sheets.{GoodSheet, Records, none, more, good, SheetIs, sheetMark, sampleWidth, told}
+use Rattle.sheets.specs.Sheets.{Records, none, more, samplesOf, leafIn, sampleWidth, Good}
 use Rattle.sheets.specs.declared.SheetAnswer.{SheetAnswer}
-use Rattle.sheets.specs.Theorems.Determined.{sheet-determined}
+use Rattle.sheets.specs.Theorems.Determined.{query-one}
 use Rattle.sheets.specs.Theorems.Good.{same-cells, same-axes}
 use Rattle.sheets.specs.Theorems.Listing.{GoodCell}
 use Rattle.points.specs.Points.{pointOf, isPoint, refusedPoint}
@@ -34,8 +34,8 @@ use Rattle.greys.specs.declared.ValueAnswer.{ValueAnswer}
 use Rattle.greys.specs.declared.Value.{Value}
 use Rattle.greys.specs.declared.Value.the-variants.{Grey, Refused}
 use Rattle.queries.specs.declared.LeafAnswer.{LeafAnswer}
-use Rattle.queries.specs.Queries.{leafIn, cellIn, sideIn, LeafAt, LeafWeights, samplesOf, weightsLength, leafRefusal, Good, leafTold, Query, sheet-refused, sheet-good, LeafOn, leaf-refused, leaf-found, LeafIs, ValueOn, value-refused, value-found, ValueIs, FlatValueIs}
-use Rattle.queries.specs.Walk.{leaf-good}
+use Rattle.queries.specs.Queries.{cellIn, sideIn, LeafAt, LeafWeights, weightsLength, leafRefusal, leafTold, LeafOn, leaf-refused, leaf-found, LeafIs, ValueOn, value-refused, value-found, ValueIs, FlatValueIs}
+use Rattle.finding.specs.Walk.{leaf-good}
 
 -- there is one leaf at a point
 pub leaf-one : {cs : List TreeCell} {p : Point} {i j : ℕ} → LeafAt cs p i → LeafAt cs p j → i ≡ j
@@ -77,18 +77,6 @@ samples-one {mark} {width} {d} {d′} (more {c = c} {cs = cs} {rest = rest} smp 
     go : (i : ℕ) → ((j : ℕ) → samplesOf r j ≡ samplesOf r′ j) → samplesOf (more {c = c} smp e q r) i ≡ samplesOf (more {c = c′} smp′ e′ q′ r′) i
     go zero t = both .0
     go (suc i) t = t i
-
--- a sheet is refused, or good in one way
-not-both : {sheet : List ℕ} {a : SheetAnswer} {n : ℕ} → SheetIs sheet a → a .refusal ≢ done → Good sheet n → ⊥
-not-both {sheet} {a} {n} s k g = k (ap (λ (a : SheetAnswer). a .refusal) (sheet-determined sheet a (told done 0 n) s (good g refl)))
-
-query-one : {sheet : List ℕ} {refused refused′ : ℕ → ℕ → Type 0} {answered answered′ : (n : ℕ) → Good sheet n → Type 0} {Z : Type 0}
-    → Query sheet refused answered → Query sheet refused′ answered′ → ((number offset : ℕ) → refused number offset → refused′ number offset → Z)
-    → ((n m : ℕ) (g : Good sheet n) (h : Good sheet m) → answered n g → answered′ m h → Z) → Z
-query-one {sheet} {refused′ = refused′} (sheet-refused {a = a} s k x) (sheet-refused {a = b} t l y) f g = f (a .refusal) (a .offset) x (subst (λ (c : SheetAnswer). refused′ (c .refusal) (c .offset)) (sym (sheet-determined sheet a b s t)) y)
-query-one (sheet-refused s k x) (sheet-good h y) f g = absurd (not-both s k h)
-query-one (sheet-good h x) (sheet-refused s k y) f g = absurd (not-both s k h)
-query-one (sheet-good {n = n} g x) (sheet-good {n = m} h y) f k = k n m g h x y
 
 -- the leaf at a point of a good sheet, with its weights, its side and its samples
 module _ {sheet : List ℕ} {n m : ℕ} (g : Good sheet n) (h : Good sheet m) {p : Point} (dims : length p ≡ g .dimension) {i j : ℕ} {ws us : List ℕ}

@@ -5,10 +5,6 @@ pub mod Queries
 pub mod Theorems
 -- Two outcomes that a contract allows are equal.
 pub mod Determined
--- A good sheet read record by record.
-pub mod Walk
--- The search for a place on the line.
-pub mod Seeks
 -- The record that a query is answered from.
 pub mod Choice
 -- The weights as they are written.

@@ -11,9 +11,8 @@ use lib.Ieee.{Float}
 use Rattle.dimension.specs.Sizes.{boxSide}
 use Rattle.bisection.specs.Cells.{Point, Cell, cellOf, pointBytes}
 use Rattle.bisection.specs.Refusals.{done, refusedShort, need, firstRefusal}
-use Rattle.sheets.specs.Forests.{TreeCell, treeCell}
-use Rattle.sheets.specs.Sheets.{Records, none, more, GoodSheet, SheetIs, sheetMark, sampleWidth}
-use Rattle.sheets.specs.declared.SheetAnswer.{SheetAnswer}
+use Rattle.sheets.specs.Forests.{TreeCell}
+use Rattle.sheets.specs.Sheets.{sampleWidth, leafIn, samplesOf, Good, Query}
 use Rattle.points.specs.Weights.{Weighs, Inside}
 use Rattle.points.specs.Points.{pointOf, isPoint, refusedPoint}
 use Rattle.greys.specs.Fractions.{Fraction}
@@ -24,10 +23,7 @@ use Rattle.greys.specs.declared.Value.{Value}
 use Rattle.greys.specs.declared.Value.the-variants.{Grey, Refused}
 use Rattle.queries.specs.declared.LeafAnswer.{LeafAnswer}
 
--- leaf i of a list, and its cell
-abbrev pub leafIn : List TreeCell → ℕ → TreeCell
-leafIn cs i = getD cs i (treeCell [] [])
-
+-- the cell of leaf i
 abbrev pub cellIn : List TreeCell → ℕ → Cell
 cellIn cs i = cellOf (leafIn cs i .root) (leafIn cs i .path)
 
@@ -45,12 +41,6 @@ pub record LeafAt (cs : List TreeCell) (p : Point) (i : ℕ) : Type 0 where
 abbrev pub LeafWeights : List TreeCell → ℕ → Point → List ℕ → Type 0
 LeafWeights cs i p ws = Weighs (cellIn cs i) p (sideIn cs i) ws
 
--- the sample bytes of record i
-unfoldable pub samplesOf : {mark : List ℕ} {width d : ℕ} {cs : List TreeCell} {sheet : List ℕ} → Records mark width d cs sheet → ℕ → List ℕ
-samplesOf none i = []
-samplesOf (more samples size is rest) zero = samples
-samplesOf (more samples size is rest) (suc i) = samplesOf rest i
-
 -- a weight is two bytes, low byte first, one for each vertex
 abbrev pub weightsLength : ℕ → ℕ
 weightsLength d = 2 * suc d
@@ -61,16 +51,8 @@ leafRefusal d point room = firstRefusal (
     ∷ need (leb (weightsLength d) room) refusedShort
     ∷ [])
 
-abbrev pub Good : List ℕ → ℕ → Type 0
-Good sheet n = GoodSheet sheetMark sampleWidth sheet n
-
 abbrev pub leafTold : ℕ → ℕ → ℕ → ℕ → LeafAnswer
 leafTold refusal offset number length = record { refusal = refusal; offset = offset; number = number; length = length }
-
--- a query of a sheet: refused as the sheet check refuses, or answered from a good sheet
-pub data Query (sheet : List ℕ) (refused : ℕ → ℕ → Type 0) (answered : (n : ℕ) → Good sheet n → Type 0) : Type 0 where
-  sheet-refused : {a : SheetAnswer} → SheetIs sheet a → a .refusal ≢ done → refused (a .refusal) (a .offset) → Query sheet refused answered
-  sheet-good : {n : ℕ} (g : Good sheet n) → answered n g → Query sheet refused answered
 
 -- the leaf query: the record's number, and the weights at the front of the lent buffer
 pub data LeafOn {sheet : List ℕ} {n : ℕ} (g : Good sheet n) (point before : List ℕ) (r : LeafAnswer) (after : List ℕ) : Type 0 where

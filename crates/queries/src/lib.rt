@@ -1,23 +1,23 @@
 // Point queries: the leaf at a point and its weights, and the exact grey value there. The whole sheet is checked first. No leaf is
 // tested: the way down to the point gives a place on the line of all cells, and the leaf there is the one that the document asks for.
 ghost use mathlib.Core.Path.{_≡_};
-ghost use mathlib.Core.Bool.{true};
 ghost use mathlib.Core.List.{[], _∷_};
-ghost use Prim.Native.Nat.{suc, _+_, _*_, _/_, _%_, _^_, _≤_, _<_};
+ghost use Prim.Native.Nat.{_+_, _*_, _/_, _%_, _^_, _≤_, _<_};
 ghost use lib.ListN.{length};
 ghost use Rattle.common.specs.Putting.{put, Puts};
-ghost use Rattle.dimension.specs.Sizes.{isDimension, axesOf, greatestDepth, codeLength};
+ghost use Rattle.dimension.specs.Sizes.{axesOf};
 ghost use Rattle.sheets.specs.Sheets.{sheetMark, sampleWidth};
 ghost use Rattle.sheets.specs.Steps.{markOf};
 ghost use Rattle.points.specs.Points.{pointOf};
 ghost use Rattle.queries.specs.Choice.{ChoiceReady, ChosenIs};
 ghost use Rattle.queries.specs.Queries.{leafTold, LeafIs, ValueIs};
-ghost use Rattle.queries.specs.Answers.{OpenedIs, GreyIs};
+ghost use Rattle.queries.specs.Answers.{GreyIs};
 ghost use Rattle.queries.specs.Writing.{weightBytes, WeightsReady};
-ghost use Rattle.queries.specs.Seeks.{WithinIs, PastReady, PastIs, SeekReady, SoughtIs};
 use bisection::DONE;
 use bisection::REFUSED_SHORT;
 use dimension::Dim;
+use finding::Ahead;
+use finding::opened;
 use greys::Value;
 use points::REFUSED_POINT;
 use sheets::Edition;
@@ -29,83 +29,6 @@ pub struct LeafAnswer {
     pub offset: usize,
     pub number: usize,
     pub length: usize,
-}
-
-// A record of a checked sheet: its number, where it begins, and how deep its leaf is.
-struct Sought {
-    number: usize,
-    offset: usize,
-    depth: usize,
-}
-
-// How many bytes a record has whose leaf is so deep.
-fn record_length(edition: Edition, dimension: u8, depth: usize) -> usize
-    requires { ⌜ (isDimension dimension ≡ true) × (depth ≤ greatestDepth dimension) ⌝ }
-    ensures { λ r. ⌜ r ≡ length (markOf edition) + (codeLength dimension depth + edition .width * suc dimension) ⌝ }
-{
-    let samples = sheets::samples_length(edition.width, dimension);
-    let code = Dim::checked(dimension).code_length(depth);
-    sheets::MARK_LENGTH + (code + samples)
-}
-
-// How far a place is ahead: whole stretches of a root, and a part of one. In one number it would not fit for all limits.
-struct Ahead {
-    stretches: usize,
-    part: u64,
-}
-
-// The place is within the next cell, of this size.
-fn is_within(ahead: Ahead, size: u64) -> bool
-    ensures { λ r. ⌜ WithinIs ahead size r ⌝ }
-{
-    if ahead.stretches != 0 {
-        return false;
-    }
-    ahead.part < size
-}
-
-// How far it is ahead behind that cell.
-fn past(ahead: Ahead, size: u64, stretch: u64) -> Ahead
-    requires { ⌜ PastReady ahead size stretch ⌝ }
-    ensures { λ r. ⌜ PastIs ahead size stretch r ⌝ }
-{
-    if ahead.part < size {
-        return Ahead {
-            stretches: ahead.stretches - 1,
-            part: ahead.part + (stretch - size),
-        };
-    }
-    Ahead {
-        stretches: ahead.stretches,
-        part: ahead.part - size,
-    }
-}
-
-// The record whose leaf's part of the line holds a place.
-fn seek(edition: Edition, sheet: &[u8], dimension: u8, place: Ahead) -> Sought
-    requires { ⌜ SeekReady (markOf edition) (edition .width) (now sheet) dimension place ⌝ }
-    ensures { λ r. ⌜ SoughtIs (markOf edition) (edition .width) (now (sheet .entry)) dimension place r ⌝ }
-{
-    let deepest = Dim::checked(dimension).greatest_depth();
-    let stretch = positions::power(deepest);
-    let mut number: usize = 0;
-    let mut offset: usize = 0;
-    let mut ahead = place;
-    loop {
-        let code = &sheet[offset + sheets::MARK_LENGTH..];
-        let depth = codes::code_depth(code);
-        let size = positions::power(deepest - depth);
-        if is_within(ahead, size) {
-            return Sought {
-                number,
-                offset,
-                depth,
-            };
-        }
-        ahead = past(ahead, size, stretch);
-        offset += record_length(edition, dimension, depth);
-        number += 1;
-    }
 }
 
 // The record that a query is answered from: its number, how deep its leaf is, where its samples stand, and the point's weights in
@@ -128,7 +51,7 @@ pub fn record_at(edition: Edition, sheet: &[u8], dimension: u8, point: &[u8]) ->
         stretches: way.root,
         part: way.position,
     };
-    let sought = seek(edition, sheet, dimension, place);
+    let sought = finding::seek(edition, sheet, dimension, 0, 0, place);
     let first = way.weights;
     let there = ways::descend(first, dim, sought.depth);
     let weights = there.weights;
@@ -147,32 +70,6 @@ fn leaf_record(sheet: &[u8], dimension: u8, point: &[u8]) -> Chosen
     ensures { λ r. ⌜ ChosenIs sheetMark sampleWidth (now (sheet .entry)) dimension (pointOf (now (point .entry))) r ⌝ }
 {
     record_at(sheets::first_edition(), sheet, dimension, point)
-}
-
-// What the whole check of a sheet says: its refusal and offset, or the dimension of a good sheet.
-struct Opened {
-    refusal: u8,
-    offset: usize,
-    dimension: u8,
-}
-
-fn check_sheet(sheet: &[u8]) -> Opened
-    ensures { λ r. ⌜ OpenedIs (now (sheet .entry)) r ⌝ }
-{
-    let answer = sheets::sheet_check(sheet);
-    if answer.refusal != DONE {
-        return Opened {
-            refusal: answer.refusal,
-            offset: answer.offset,
-            dimension: 0,
-        };
-    }
-    let first = sheets::record_parts(sheets::first_edition(), sheet);
-    Opened {
-        refusal: DONE,
-        offset: 0,
-        dimension: first.dimension,
-    }
 }
 
 // Writes weight number n: two bytes, the low byte first.
@@ -212,7 +109,7 @@ fn leaf_refused(refusal: u8, offset: usize) -> LeafAnswer
 pub fn leaf_at(sheet: &[u8], point: &[u8], weights: &mut [u8]) -> LeafAnswer
     ensures { λ r. ⌜ LeafIs (now (sheet .entry)) (now (point .entry)) (now (weights .entry)) r (now (weights .exit)) ⌝ }
 {
-    let opened = check_sheet(sheet);
+    let opened = opened::check_sheet(sheet);
     if opened.refusal != DONE {
         return leaf_refused(opened.refusal, opened.offset);
     }
@@ -252,7 +149,7 @@ fn grey_at(sheet: &[u8], dimension: u8, point: &[u8]) -> f64
 pub fn value_at(sheet: &[u8], point: &[u8]) -> Value
     ensures { λ r. ⌜ ValueIs (now (sheet .entry)) (now (point .entry)) r ⌝ }
 {
-    let opened = check_sheet(sheet);
+    let opened = opened::check_sheet(sheet);
     if opened.refusal != DONE {
         return Value::Refused {
             number: opened.refusal,

@@ -4,15 +4,15 @@ use mathlib.Core.Path.{_≡_}
 use mathlib.Core.Bool.{Bool, true, false, _&&_}
 use mathlib.Core.List.{List, [], _∷_, _++_}
 use mathlib.Core.Logic.{_≢_}
-use Prim.Native.Nat.{ℕ, suc, _+_, _*_, _<_}
+use Prim.Native.Nat.{ℕ, zero, suc, _+_, _*_, _<_}
 use lib.Dec.{eqb, leb}
-use lib.ListN.{length, take, drop}
+use lib.ListN.{length, getD, take, drop}
 use Rattle.dimension.specs.Sizes.{isDimension, greatestDepth}
 use Rattle.bisection.specs.Roots.{roots}
 use Rattle.bisection.specs.Codes.{codeOf}
 use Rattle.bisection.specs.Refusals.{done, need, own, firstRefusal}
 use Rattle.codes.specs.Fronts.{frontRefusal, frontDimension, frontLength, frontCode, innerRefusal}
-use Rattle.sheets.specs.Forests.{TreeCell, Leaves}
+use Rattle.sheets.specs.Forests.{TreeCell, treeCell, Leaves}
 use Rattle.sheets.specs.declared.SheetAnswer.{SheetAnswer}
 
 -- sheet: mark missing or wrong, or record cut short
@@ -36,6 +36,12 @@ pub data Records (mark : List ℕ) (width d : ℕ) : List TreeCell → List ℕ 
   none : Records mark width d [] []
   more : {c : TreeCell} {cs : List TreeCell} {rest sheet : List ℕ} (samples : List ℕ) → length samples ≡ width * suc d → sheet ≡ mark ++ (codeOf (c .root) (c .path) ++ (samples ++ rest)) → Records mark width d cs rest → Records mark width d (c ∷ cs) sheet
 
+-- the sample bytes of record i
+unfoldable pub samplesOf : {mark : List ℕ} {width d : ℕ} {cs : List TreeCell} {sheet : List ℕ} → Records mark width d cs sheet → ℕ → List ℕ
+samplesOf none i = []
+samplesOf (more samples size is rest) zero = samples
+samplesOf (more samples size is rest) (suc i) = samplesOf rest i
+
 -- a good sheet of n records: it lists, in tree order, the leaves of a forest on all roots of a dimension
 pub record GoodSheet (mark : List ℕ) (width : ℕ) (sheet : List ℕ) (n : ℕ) : Type 0 where
   pub dimension : ℕ
@@ -44,6 +50,10 @@ pub record GoodSheet (mark : List ℕ) (width : ℕ) (sheet : List ℕ) (n : ℕ
   pub leaves : Leaves (roots dimension) (greatestDepth dimension) cells
   pub records : Records mark width dimension cells sheet
   pub count : length cells ≡ n
+
+-- leaf i of a list
+abbrev pub leafIn : List TreeCell → ℕ → TreeCell
+leafIn cs i = getD cs i (treeCell [] [])
 
 -- a record is the next leaf when some good sheet begins with the records up to and including it
 pub record Begins (mark : List ℕ) (width : ℕ) (front : List ℕ) : Type 0 where
@@ -106,3 +116,12 @@ pub data Checks (mark : List ℕ) (width : ℕ) (sheet : List ℕ) (r : SheetAns
 -- the contract of the sheet check
 abbrev pub SheetIs : List ℕ → SheetAnswer → Type 0
 SheetIs sheet r = Checks sheetMark sampleWidth sheet r
+
+-- a good sheet of document 01's edition
+abbrev pub Good : List ℕ → ℕ → Type 0
+Good sheet n = GoodSheet sheetMark sampleWidth sheet n
+
+-- a query of a sheet: refused as the sheet check refuses, or answered from a good sheet
+pub data Query (sheet : List ℕ) (refused : ℕ → ℕ → Type 0) (answered : (n : ℕ) → Good sheet n → Type 0) : Type 0 where
+  sheet-refused : {a : SheetAnswer} → SheetIs sheet a → a .refusal ≢ done → refused (a .refusal) (a .offset) → Query sheet refused answered
+  sheet-good : {n : ℕ} (g : Good sheet n) → answered n g → Query sheet refused answered

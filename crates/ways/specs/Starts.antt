@@ -14,10 +14,9 @@ use Rattle.dimension.specs.Sizes.{isDimension, cubeSide, boxSide, greatestDepth
 use Rattle.dimension.specs.Laws.{dimension, at-root, side-first}
 use Rattle.bisection.specs.Cells.{Point, coordinate, cellOf}
 use Rattle.bisection.specs.Roots.{GoodRoot, roots}
-use Rattle.bisection.specs.Theorems.Checked.{at-each}
+use Rattle.bisection.specs.Theorems.Checked.{at-each, each-fails}
 use Rattle.bisection.specs.Theorems.CodePaths.{some-axes}
 use Rattle.bisection.specs.Theorems.Geometry.{closed-form}
-use Rattle.entries.specs.Walks.{each-fails}
 use Rattle.positions.specs.RootNumbers.{roots-count, roots-good, roots-length, roots-few}
 use Rattle.points.specs.Weights.{Inside}
 use Rattle.points.specs.Points.{pointOf, isPoint, InCube}

@@ -39,6 +39,13 @@ unfolding each
 at-each zero test h = refl
 at-each (suc n) test h = and-both (test n) (each n test) (h n (omega arith)) (at-each n test (λ i l. h i (omega arith)))
 
+pub each-fails : (n : ℕ) (f : ℕ → Bool) (i : ℕ) → i < n → f i ≡ false → each n f ≡ false
+each-fails n f i l e = go (each n f) refl
+  where
+    go : (t : Bool) → each n f ≡ t → t ≡ false
+    go false q = refl
+    go true q = absurd (subst T (sym (each-at n f q i l) ∙ e) tt)
+
 -- no axis before place i is a
 module _ (es : List ℕ) (a i : ℕ) where
   pub fresh-apart : fresh es a i ≡ true → (j : ℕ) → j < i → axis (getD es j 0) ≡ a → ⊥

@@ -11,13 +11,14 @@ use Rattle.dimension.specs.Sizes.{isDimension, greatestDepth}
 use Rattle.bisection.specs.Cells.{Point, cellOf}
 use Rattle.bisection.specs.Roots.{GoodRoot, roots}
 use Rattle.sheets.specs.Forests.{TreeCell, treeCell, childOf, Tree, leaf, node, leaves, Forest, more, rootCells, NoDeeper, no-deeper-more, Leaves}
+use Rattle.sheets.specs.Sheets.{leafIn}
 use Rattle.sheets.specs.Theorems.Todo.{within-front}
 use Rattle.sheets.specs.Theorems.Listing.{RootsIn, roots-more, roots-in}
 use Rattle.points.specs.Weights.{Inside}
 use Rattle.points.specs.Roots.{FirstRoot}
 use Rattle.points.specs.Theorems.Cells.{in-parent, inside-above}
 use Rattle.ways.specs.Ways.{Way}
-use Rattle.queries.specs.Queries.{leafIn, cellIn, LeafAt}
+use Rattle.queries.specs.Queries.{cellIn, LeafAt}
 
 abbrev Holds : Point → TreeCell → Type 0
 Holds p c = Inside (cellOf (c .root) (c .path)) p

@@ -1,6 +1,7 @@
 -- The answer of the sheet check is determined, and so are the leaves of a good sheet.
 use mathlib.Core.Path.{_≡_, refl, sym, ap, _∙_, subst}
 use mathlib.Core.List.{List, [], _++_, append-nil}
+use mathlib.Core.Logic.{_≢_}
 use Prim.Native.Nat.{ℕ, suc, _+_, _-_, _*_, _≤_, _<_}
 use native.Mathlib.Omega.{arith}
 use native.Mathlib.Decide.{decLt}
@@ -11,7 +12,7 @@ use Rattle.bisection.specs.Refusals.{done}
 use Rattle.codes.specs.Fronts.Laws.{front-two}
 use Rattle.sheets.specs.declared.SheetAnswer.{SheetAnswer}
 use Rattle.sheets.specs.Forests.{TreeCell}
-use Rattle.sheets.specs.Sheets.{Records, none, more, GoodSheet, Begins, behindMark, bodyLength, recordLength, recordRefusal, Read, start, next, told, Checks, good, record-refused, not-next, ended-early, SheetIs, sheetMark, sampleWidth}
+use Rattle.sheets.specs.Sheets.{Records, none, more, GoodSheet, Begins, behindMark, bodyLength, recordLength, recordRefusal, Read, start, next, told, Checks, good, record-refused, not-next, ended-early, SheetIs, sheetMark, sampleWidth, Good, Query, sheet-refused, sheet-good}
 use Rattle.sheets.specs.Theorems.Listing.{recordOf, IsRecord, record-read, record-passes, record-rest, Listed, listed-empty, Cut, cut, CellsIn, cells-none, cells-more, records-listed, leaves-cells}
 
 module _ (mark : List ℕ) (width : ℕ) where
@@ -138,3 +139,15 @@ module _ (mark : List ℕ) (width : ℕ) where
 -- the contract of the sheet check determines its answer
 pub sheet-determined : (sheet : List ℕ) (r r′ : SheetAnswer) → SheetIs sheet r → SheetIs sheet r′ → r ≡ r′
 sheet-determined sheet r r′ a b = checks-same sheetMark sampleWidth sheet a b
+
+-- a sheet is refused, or good in one way
+not-both : {sheet : List ℕ} {a : SheetAnswer} {n : ℕ} → SheetIs sheet a → a .refusal ≢ done → Good sheet n → ⊥
+not-both {sheet} {a} {n} s k g = k (ap (λ (a : SheetAnswer). a .refusal) (sheet-determined sheet a (told done 0 n) s (good g refl)))
+
+pub query-one : {sheet : List ℕ} {refused refused′ : ℕ → ℕ → Type 0} {answered answered′ : (n : ℕ) → Good sheet n → Type 0} {Z : Type 0}
+    → Query sheet refused answered → Query sheet refused′ answered′ → ((number offset : ℕ) → refused number offset → refused′ number offset → Z)
+    → ((n m : ℕ) (g : Good sheet n) (h : Good sheet m) → answered n g → answered′ m h → Z) → Z
+query-one {sheet} {refused′ = refused′} (sheet-refused {a = a} s k x) (sheet-refused {a = b} t l y) f g = f (a .refusal) (a .offset) x (subst (λ (c : SheetAnswer). refused′ (c .refusal) (c .offset)) (sym (sheet-determined sheet a b s t)) y)
+query-one (sheet-refused s k x) (sheet-good h y) f g = absurd (not-both s k h)
+query-one (sheet-good h x) (sheet-refused s k y) f g = absurd (not-both s k h)
+query-one (sheet-good {n = n} g x) (sheet-good {n = m} h y) f k = k n m g h x y

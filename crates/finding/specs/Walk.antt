@@ -13,9 +13,8 @@ use Rattle.codes.specs.Fronts.Laws.{Fronted, code-fronted, front-path, code-len
 use Rattle.bisection.specs.Refusals.{done, codeRefusal}
 use Rattle.bisection.specs.Theorems.CodePaths.{code-passes}
 use Rattle.sheets.specs.Forests.{TreeCell, treeCell}
-use Rattle.sheets.specs.Sheets.{Records, none, more, GoodSheet}
+use Rattle.sheets.specs.Sheets.{Records, none, more, samplesOf, GoodSheet, leafIn}
 use Rattle.sheets.specs.Theorems.Listing.{GoodCell, code-of-cell, CellsIn, cells-none, cells-more, leaves-cells}
-use Rattle.queries.specs.Queries.{leafIn, samplesOf}
 
 pub cell-at : {d : ℕ} {cs : List TreeCell} → CellsIn d cs → (i : ℕ) → i < length cs → GoodCell (leafIn cs i) × (length (leafIn cs i .root) ≡ d)
 cell-at cells-none i l = absurd (omega arith)
@@ -57,6 +56,7 @@ module _ {mark : List ℕ} {width : ℕ} {sheet : List ℕ} {n : ℕ} (g : GoodS
   pub record Here (number offset : ℕ) : Type 0 where
     pub two : offset + length mark + 2 ≤ length sheet
     pub depth-is : frontDepth (drop (offset + length mark) sheet) ≡ depthOf number
+    pub code-is : take (codeLength (g .dimension) (depthOf number)) (drop (offset + length mark) sheet) ≡ codeOf (leafIn (g .cells) number .root) (leafIn (g .cells) number .path)
     pub room : offset + sizeOf number ≤ length sheet
     pub samples-are : take (width * suc (g .dimension)) (drop (offset + headOf number) sheet) ≡ samplesOf (g .records) number
     pub next : From (suc number) (offset + sizeOf number)
@@ -69,6 +69,7 @@ module _ {mark : List ℕ} {width : ℕ} {sheet : List ℕ} {n : ℕ} (g : GoodS
     here-by (more {c = c} {cs = cs} {rest = rest} samples size is rs) e b a few inside = record {
       two = omega (arith, whole, code-two);
       depth-is = ap frontDepth behind ∙ fronted .depth ∙ front-path (code-of-cell good);
+      code-is = ap (take (codeLength (g .dimension) (depthOf number))) behind ∙ take-at (codeAt number) (samples ++ rest) (codeLength (g .dimension) (depthOf number)) code-size;
       room = omega (arith, whole);
       samples-are = ap (take (width * suc (g .dimension))) at-samples ∙ take-at samples rest (width * suc (g .dimension)) size ∙ a 0 ∙ ap (samplesOf (g .records)) (omega arith);
       next = record {

@@ -1,9 +1,9 @@
 -- `record_length` meets its contract: the mark, the code and the samples.
 use native.Mathlib.Omega.{arith}
-use Rattle.queries.specs.Seeks.{code-read}
+use Rattle.finding.specs.Records.{code-read}
 use borrow.Author.Needs.{needs}
-use Rattle.queries.proofs.record_length.Statement.{statement}
-use Rattle.queries.proofs.record_length.Tie as tie
+use Rattle.finding.proofs.record_length.Statement.{statement}
+use Rattle.finding.proofs.record_length.Tie as tie
 
 add-result : tie.Need-add-result
 add-result c = let checked = c .before in let pre = checked .before .before .pre in omega (arith, checked .before .samples-length .ensures, code-read (checked .checked .ensures) (c .code-length .ensures) (pre .0) (pre .1))
