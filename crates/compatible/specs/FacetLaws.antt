@@ -6,7 +6,7 @@ use mathlib.Core.Logic.{_≢_}
 use Prim.Native.Nat.{ℕ, suc, _+_, _≤_, _<_}
 use native.Mathlib.Omega.{arith}
 use lib.Dec.{T}
-use lib.ListN.{length, take, drop}
+use lib.ListN.{length, take, drop, length-append, length-take}
 use lib.Seq.{take-at}
 use Rattle.dimension.specs.Sizes.{longestOfAll, codeLength}
 use Rattle.dimension.specs.Laws.{dimension, code-longest}
@@ -48,7 +48,7 @@ pub record FacetIs (mark : List ℕ) (width : ℕ) (sheet code : List ℕ) (i : 
   pub fails : r ≡ false → {n : ℕ} (g : GoodSheet mark width sheet n) (c : TreeCell) → GoodCell c → code ≡ codeFor c → (¬ Walls c i) × (Meets (g .cells) c i → ⊥)
 
 module _ {mark : List ℕ} {width : ℕ} {sheet : List ℕ} {d : ℕ} {index : List ℕ} {spread : Spread} {code : List ℕ} {i : ℕ} (ready : FacetReady mark width sheet d index spread code i)
-    {before after : List ℕ} (room : length before ≡ longestOfAll) {r : Crossed} (x : Crosses code i before r after) where
+    {before after : List ℕ} {r : Crossed} (x : Crosses code i before r after) (room : length before ≡ longestOfAll) where
   abbrev own : TreeCell
   own = ready .cell
 
@@ -113,6 +113,17 @@ module _ {mark : List ℕ} {width : ℕ} {sheet : List ℕ} {d : ℕ} {index : L
 
     to-code : IsCodeOf (o .to) (beyond (ready .good) (o .across) .root) (beyond (ready .good) (o .across) .path)
     to-code = beyond-code (ready .good) (o .across)
+
+    pub facet-room : r .length ≤ length after
+    facet-room = go met
+      where
+        go : outcome.Meets code i before r after → r .length ≤ length after
+        go (wall w q) = absurd (omega (arith, h, q .number))
+        go (short code' j b l q) = absurd (omega (arith, h, q .number))
+        go (crossed code' j b l q) = omega (arith, q .size, ap length (q .written), length-append code' (drop (length code') before))
+
+    pub facet-count : r .length ≡ length (take (r .length) after)
+    facet-count = omega (arith, length-take (r .length) after, facet-room)
 
     pub facet-next : NearReady mark width sheet d index spread (take (r .length) after)
     facet-next = subst (NearReady mark width sheet d index spread) (sym (o .written)) (record {

@@ -11,3 +11,5 @@ pub mod Nearness
 pub mod FacetLaws
 -- The walk over leaves and facets.
 pub mod Walking
+-- The whole test.
+pub mod Answers

@@ -16,7 +16,7 @@ use Rattle.bisection.specs.Codes.{IsCodeOf}
 use Rattle.bisection.specs.Refusals.{done, codeRefusal}
 use Rattle.bisection.specs.Theorems.CodePaths.{one-path}
 use Rattle.codes.specs.Fronts.{frontDimension, frontDepth}
-use Rattle.codes.specs.Fronts.Laws.{front-root, front-path}
+use Rattle.codes.specs.Fronts.Laws.{front-root, front-path, code-two}
 use Rattle.positions.specs.declared.Position.{Position}
 use Rattle.positions.specs.Positions.{startOf, sizeOf, PositionIs}
 use Rattle.sheets.specs.Forests.{TreeCell, treeCell, childOf, Leaves}
@@ -28,6 +28,7 @@ use Rattle.finding.specs.declared.Found.{Found}
 use Rattle.finding.specs.declared.Kind.{Kind}
 use Rattle.finding.specs.declared.Kind.the-variants.{Leaf, Inside, Split}
 use Rattle.finding.specs.Sizes.{start-joined}
+use Rattle.finding.specs.Records.{depth-sixty, good-stretch}
 use Rattle.finding.specs.Walk.{leaf-good}
 use Rattle.finding.specs.Theorems.OneOfThree.{among-one}
 use Rattle.finding.specs.Finding.{LiesIn, StrictlyIn, Among, is-leaf, inside, split, StandsAt, Indexed, FindReady, FoundIs}
@@ -49,6 +50,21 @@ pub record NearIs (mark : List ℕ) (width : ℕ) (sheet code : List ℕ) (r : B
 pub record LeafKind (k : Kind) (r : Bool) : Type 0 where
   pub leaf : r ≡ true → k ≡ Leaf
   pub other : r ≡ false → k ≡ Leaf → ⊥
+
+-- what the kind of a leaf is, and what the others are
+abbrev isLeafKind : Kind → Bool
+isLeafKind Leaf = true
+isLeafKind Inside = false
+isLeafKind Split = false
+
+pub kind-of-leaf : {k : Kind} → k ≡ Leaf → LeafKind k true
+kind-of-leaf e = record { leaf = λ z. e; other = λ z q. subst T z tt }
+
+pub kind-inside : {k : Kind} → k ≡ Inside → LeafKind k false
+kind-inside e = record { leaf = λ z. absurd (subst T (sym z) tt); other = λ z q. subst T (ap isLeafKind (sym q ∙ e)) tt }
+
+pub kind-split : {k : Kind} → k ≡ Split → LeafKind k false
+kind-split e = record { leaf = λ z. absurd (subst T (sym z) tt); other = λ z q. subst T (ap isLeafKind (sym q ∙ e)) tt }
 
 no-rest : (rest : List ℕ) → length rest ≡ 0 → rest ≡ []
 no-rest [] e = refl
@@ -171,7 +187,19 @@ module _ {mark : List ℕ} {width : ℕ} {sheet : List ℕ} {d : ℕ} {index : L
   pub find-ready : FindReady mark width sheet d index spread p
   find-ready = let s = stands (ready .axes) at own own-code in record { indexed = ready .indexed; root-small = s .root-small; start-small = stands-small (cell-good own own-code) own-axes s }
 
+  pub near-two : 2 ≤ length code
+  near-two = code-two code (ready .passes)
+
+  known-axes : isDimension d ≡ true
+  known-axes = subst (λ (n : ℕ). isDimension n ≡ true) (ready .indexed .axes) (ready .indexed .good .is-dimension)
+
+  pub depth-fits : {depth : ℕ} → depth ≡ frontDepth code → depth + 1 < 2 ^ 64
+  depth-fits {depth} e = omega (arith, e, front-path own-code, own-code .good-path .depth, depth-sixty known-axes own-axes refl)
+
   module _ {r : Found} (f : FoundIs mark width sheet d p r) {depth : ℕ} (deep : depth ≡ frontDepth code) where
+    pub found-fits : r .depth + 1 < 2 ^ 64
+    found-fits = let k = leaf-good (f .good) (r .number) (f .small) in omega (arith, f .depth-is, k .0 .good-path .depth, depth-sixty known-axes (k .1 ∙ f .axes) refl)
+
     pub near-leaf : r .kind ≡ Leaf → NearIs mark width sheet code true
     near-leaf q = record { near = λ z g e c. leaf-near (ready .axes) at f g e c q; far = λ z g e c n. subst T z tt }
 
@@ -218,6 +246,9 @@ module _ {mark : List ℕ} {width : ℕ} {sheet : List ℕ} {d : ℕ} {index : L
 
       pub second-ready : FindReady mark width sheet d index spread second
       second-ready = let o = below own own-code in record { indexed = ready .indexed; root-small = o .1 .root-small; start-small = stands-small (o .0) own-axes (o .1) }
+
+      pub second-fits : second .start < 2 ^ 64
+      second-fits = omega (arith, second-ready .start-small, good-stretch d known-axes)
 
       pub near-second : (r .depth ≡ depth + 1 → ⊥) → {x : Found} → FoundIs mark width sheet d second x → {b : Bool} → LeafKind (x .kind) b → NearIs mark width sheet code b
       near-second no-child {x} h {b} k = record { near = yes-one; far = none-near }

@@ -26,7 +26,7 @@ pub struct Sought {
 }
 
 // How many bytes a record has whose leaf is so deep.
-fn record_length(edition: Edition, dimension: u8, depth: usize) -> usize
+pub fn record_length(edition: Edition, dimension: u8, depth: usize) -> usize
     requires { ⌜ (isDimension dimension ≡ true) × (depth ≤ greatestDepth dimension) ⌝ }
     ensures { λ r. ⌜ r ≡ length (markOf edition) + (codeLength dimension depth + edition .width * suc dimension) ⌝ }
 {
