@@ -13,3 +13,5 @@ pub mod FacetLaws
 pub mod Walking
 -- The whole test.
 pub mod Answers
+-- Its answer is determined.
+pub mod Determined

@@ -14,6 +14,8 @@ use Rattle.sheets.specs.Sheets.{SheetIs}
 use Rattle.sheets.specs.Theorems.Determined.{sheet-determined}
 use Rattle.queries.specs.Queries.{LeafIs, ValueIs, FlatValueIs}
 use Rattle.queries.specs.Determined.{leaf-determined, value-determined, flat-determined}
+use Rattle.compatible.specs.Compatible.{CompatibleIs}
+use Rattle.compatible.specs.Determined.{compatible-determined}
 use Rattle.listing.specs.Texts.{Lists}
 use Rattle.listing.specs.Determined.{listing-determined}
 
@@ -36,6 +38,7 @@ pub record EveryEntry : Type 0 where
   pub leaf-at : (sheet point before : List ℕ) → OneOutcome (LeafIs sheet point before)
   pub value-at : (sheet point : List ℕ) → OneAnswer (ValueIs sheet point)
   pub flat-value-at : (sheet point : List ℕ) → OneAnswer (FlatValueIs sheet point)
+  pub compatible : (sheet : List ℕ) → OneAnswer (CompatibleIs sheet)
   pub list-sheet : (sheet before : List ℕ) → OneOutcome (Lists sheet before)
 
 cross-one : {r r′ : Crossed} {after after′ : List ℕ} → Same r after r′ after′ → (r ≡ r′) × (after ≡ after′)
@@ -55,5 +58,6 @@ nothing-open = record {
   leaf-at = λ sheet point before r r′ after after′ a b. let s = leaf-determined a b in (s .answer, s .buffer);
   value-at = λ sheet point r r′ a b. value-determined a b;
   flat-value-at = λ sheet point r r′ a b. flat-determined a b;
+  compatible = λ sheet r r′ a b. compatible-determined a b;
   list-sheet = λ sheet before r r′ after after′ a b. listing-determined sheet before r r′ after after′ a b;
 }

@@ -6,8 +6,10 @@ ghost use Rattle.codes.specs.Outcomes.{PathToCode, CodeToPath, Vertices, Child,
 ghost use Rattle.crossing.specs.Outcome.{Crosses};
 ghost use Rattle.sheets.specs.Sheets.{SheetIs};
 ghost use Rattle.queries.specs.Queries.{LeafIs, FlatValueIs};
+ghost use Rattle.compatible.specs.Compatible.{CompatibleIs};
 use codes::PathWritten;
 use codes::Written;
+use compatible::CompatibleAnswer;
 use crossing::Crossed;
 use greys::ValueAnswer;
 use queries::LeafAnswer;
@@ -81,4 +83,11 @@ pub extern "C" fn rmk_value_at(sheet: &[u8], point: &[u8]) -> ValueAnswer
     ensures { λ r. ⌜ FlatValueIs (now (sheet .entry)) (now (point .entry)) r ⌝ }
 {
     greys::flat(queries::value_at(sheet, point))
+}
+
+#[no_mangle]
+pub extern "C" fn rmk_compatible(sheet: &[u8]) -> CompatibleAnswer
+    ensures { λ r. ⌜ CompatibleIs (now (sheet .entry)) r ⌝ }
+{
+    compatible::compatible(sheet)
 }
