@@ -5,6 +5,11 @@ pub mod Rows
 pub mod Worked
 -- Two outcomes that a contract allows are equal: one claim over all entries.
 pub mod Determined
+-- The three demands; that they hold stands in Theorems.
+pub mod One
+pub mod Two
+pub mod Three
+pub mod Theorems
 -- How a row is shown, and document 01's sheet.
 pub mod Shown
 pub mod TwoLeaves

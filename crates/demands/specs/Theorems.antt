@@ -1,0 +1,4 @@
+-- The demands hold.
+pub mod Numbers
+pub mod One
+pub mod Three

@@ -1,0 +1,51 @@
+-- Demand 2. Codes, paths, vertices, parents, children, leaf sheets and point queries agree with Maubach's bisection as document 01 writes
+-- it (`cellOf`, `child`). Path to code and code to path undo each other, as calls; every cell up to the depth limit has exactly one code.
+use mathlib.Core.Path.{_≡_}
+use mathlib.Core.List.{List}
+use Prim.Native.Nat.{ℕ}
+use lib.ListN.{length, take}
+use Rattle.dimension.specs.Sizes.{splitPlace}
+use Rattle.bisection.specs.Cells.{Cell, cellOf, cellBytes, child}
+use Rattle.bisection.specs.Roots.{GoodRoot, GoodPath}
+use Rattle.bisection.specs.Codes.{dimensionOf, depthOf}
+use Rattle.bisection.specs.Refusals.{done}
+use Rattle.bisection.specs.Facets.{IsCell}
+use Rattle.codes.specs.declared.Written.{Written}
+use Rattle.codes.specs.declared.PathWritten.{PathWritten}
+use Rattle.codes.specs.Outcomes.{PathToCode, CodeToPath, Vertices, Child, Parent}
+use Rattle.sheets.specs.declared.SheetAnswer.{SheetAnswer}
+use Rattle.sheets.specs.Sheets.{SheetIs, Good}
+use Rattle.points.specs.Points.{pointOf}
+use Rattle.queries.specs.declared.LeafAnswer.{LeafAnswer}
+use Rattle.queries.specs.Queries.{LeafIs, LeafAt}
+use Rattle.compatible.specs.declared.CompatibleAnswer.{CompatibleAnswer}
+use Rattle.compatible.specs.Compatible.{CompatibleIs, Compatible}
+
+-- a code for a cell: there is one, and no other
+pub record OneCode (vs : Cell) : Type 0 where
+  pub code : List ℕ
+  pub its : IsCell code vs
+  pub only : (code' : List ℕ) → IsCell code' vs → code' ≡ code
+
+pub record Demand2 : Type 0 where
+  -- what the one writes, given to the other, comes back
+  pub path-and-back : (root path before : List ℕ) (r : Written) (after : List ℕ) → PathToCode root path before r after → r .refusal ≡ done
+      → (roots paths : List ℕ) (s : PathWritten) (roots' paths' : List ℕ) → CodeToPath (take (r .length) after) roots paths s roots' paths' → s .refusal ≡ done
+      → (take (s .axes) roots' ≡ root) × (take (s .depth) paths' ≡ path)
+  pub code-and-back : (code roots paths : List ℕ) (s : PathWritten) (roots' paths' : List ℕ) → CodeToPath code roots paths s roots' paths' → s .refusal ≡ done
+      → (before : List ℕ) (r : Written) (after : List ℕ) → PathToCode (take (s .axes) roots') (take (s .depth) paths') before r after → r .refusal ≡ done → take (r .length) after ≡ code
+  -- every cell up to the depth limit has exactly one code
+  pub one-code : (root path : List ℕ) → GoodRoot root → GoodPath (length root) path → OneCode (cellOf root path)
+  -- vertices, children and parents are the bisection's
+  pub vertices : (code before : List ℕ) (r : Written) (after : List ℕ) → Vertices code before r after → r .refusal ≡ done → (vs : Cell) → IsCell code vs → take (r .length) after ≡ cellBytes vs
+  pub child-of : (code : List ℕ) (which : ℕ) (before : List ℕ) (r : Written) (after : List ℕ) → Child code which before r after → r .refusal ≡ done
+      → (vs : Cell) → IsCell code vs → IsCell (take (r .length) after) (child which (splitPlace (dimensionOf code) (depthOf code)) vs)
+  pub parent-of : (code before : List ℕ) (r : Written) (after : List ℕ) → Parent code before r after → r .refusal ≡ done
+      → (vs ws : Cell) → IsCell code vs → IsCell (take (r .length) after) ws → (which : ℕ) × (vs ≡ child which (splitPlace (dimensionOf (take (r .length) after)) (depthOf (take (r .length) after))) ws)
+  -- the sheet check's yes is exactly a good sheet, and the count is that of its records
+  pub yes-good : (sheet : List ℕ) (r : SheetAnswer) → SheetIs sheet r → r .refusal ≡ done → Good sheet (r .records)
+  pub good-yes : (sheet : List ℕ) (r : SheetAnswer) → SheetIs sheet r → (n : ℕ) → Good sheet n → (r .refusal ≡ done) × (r .records ≡ n)
+  -- the leaf at a point is the first whose closed cell contains it
+  pub leaf-at : (sheet point before : List ℕ) (r : LeafAnswer) (after : List ℕ) → LeafIs sheet point before r after → r .refusal ≡ done → (n : ℕ) (g : Good sheet n) → LeafAt (g .cells) (pointOf point) (r .number)
+  -- a sheet is said to be compatible exactly where it is
+  pub compatible : (sheet : List ℕ) (r : CompatibleAnswer) → CompatibleIs sheet r → (n : ℕ) (g : Good sheet n) → (r .compatible ≡ 1 → Compatible (g .cells)) × (Compatible (g .cells) → r .compatible ≡ 1)
