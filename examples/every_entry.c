@@ -66,6 +66,11 @@ FIELD(rmk_sheet_answer, size_t, offset, sizeof(size_t));
 FIELD(rmk_sheet_answer, size_t, records, 2 * sizeof(size_t));
 static_assert(sizeof(rmk_sheet_answer) == 3 * sizeof(size_t), "rmk_sheet_answer has other fields");
 
+FIELD(rmk_compatible_answer, uint8_t, refusal, 0);
+FIELD(rmk_compatible_answer, uint8_t, compatible, 1);
+FIELD(rmk_compatible_answer, size_t, offset, sizeof(size_t));
+static_assert(sizeof(rmk_compatible_answer) == 2 * sizeof(size_t), "rmk_compatible_answer has other fields");
+
 FIELD(rmk_leaf_answer, uint8_t, refusal, 0);
 FIELD(rmk_leaf_answer, size_t, offset, sizeof(size_t));
 FIELD(rmk_leaf_answer, size_t, number, 2 * sizeof(size_t));
@@ -94,6 +99,7 @@ static void entry_types(void)
     TYPE(rmk_parent, rmk_written, const uint8_t *, size_t, uint8_t *, size_t);
     TYPE(rmk_cross, rmk_crossed, const uint8_t *, size_t, uint8_t, uint8_t *, size_t);
     TYPE(rmk_sheet_check, rmk_sheet_answer, const uint8_t *, size_t);
+    TYPE(rmk_compatible, rmk_compatible_answer, const uint8_t *, size_t);
     TYPE(rmk_leaf_at, rmk_leaf_answer, const uint8_t *, size_t, const uint8_t *, size_t, uint8_t *, size_t);
     TYPE(rmk_value_at, rmk_value_answer, const uint8_t *, size_t, const uint8_t *, size_t);
 }
@@ -295,6 +301,16 @@ static void sheet_check(const char *sheet_text, uint8_t refusal, size_t offset, 
     same_number("records", records, answer.records);
 }
 
+static void compatible(const char *sheet_text, uint8_t refusal, uint8_t yes, size_t offset)
+{
+    bytes sheet = hex(sheet_text);
+    begin("compatibility test", sheet_text, "");
+    rmk_compatible_answer answer = rmk_compatible(sheet.at, sheet.length);
+    same_number("refusal", refusal, answer.refusal);
+    same_number("compatible", yes, answer.compatible);
+    same_number("offset", offset, answer.offset);
+}
+
 /* A point as bytes, which need not be whole coordinates; its text is for the report. */
 static void leaf_at_bytes(const char *sheet_text, const char *point_text, bytes point, size_t lent, uint8_t refusal,
                           size_t offset, size_t number, const char *weights_text)
@@ -343,10 +359,12 @@ static void point_refused(const char *sheet_text, const char *point_text)
     query_refused(sheet_text, point_text, coordinates(point_text), RMK_REFUSED_POINT, 0);
 }
 
-/* The sheet check and both queries, which refuse a sheet as it does, whatever the point and the lent output. */
+/* The sheet check, and the compatibility test and both queries, which refuse a sheet as it does, whatever the point and
+ * the lent output. */
 static void sheet_refused(const char *sheet_text, uint8_t refusal, size_t offset)
 {
     sheet_check(sheet_text, refusal, offset, 0);
+    compatible(sheet_text, refusal, 0, offset);
     query_refused(sheet_text, "1024 1024", coordinates("1024 1024"), refusal, offset);
     query_refused(sheet_text, "4097 0", coordinates("4097 0"), refusal, offset);
     query_refused(sheet_text, "", coordinates(""), refusal, offset);
@@ -566,7 +584,18 @@ static void try_sheet_check(void)
 
 #define SHEET RECORD_0 RECORD_1
 #define HALVED "43 4C " P7 SAMPLES_2 "43 4C " P2 SAMPLES_2 RECORD_1 /* the first root's two children */
-#define CORNER "43 4C " P8_ACROSS_0 SAMPLES_2 "43 4C " P3 SAMPLES_2 "43 4C " P2 SAMPLES_2 RECORD_1
+#define QUARTERED "43 4C " P8_ACROSS_0 SAMPLES_2 "43 4C " P3 SAMPLES_2 "43 4C " P2 SAMPLES_2 /* and P7's two */
+#define CORNER QUARTERED RECORD_1
+
+static void try_compatible(void)
+{
+    compatible(SHEET, RMK_DONE, 1, 0);
+    compatible(HALVED, RMK_DONE, 1, 0); /* one of the two roots is split: the other is the parent of the cell across */
+    /* The first root's halves P8_ACROSS_0 and P3 reach the other root's edge two steps below it; with that root's two
+     * children in its place, one step. */
+    compatible(CORNER, RMK_DONE, 0, 0);
+    compatible(QUARTERED "43 4C 02 01 02 01" SAMPLES_2 "43 4C " P9_GOOD SAMPLES_2, RMK_DONE, 1, 0);
+}
 
 static void try_queries(void)
 {
@@ -614,6 +643,7 @@ int main(void)
     try_parent();
     try_cross();
     try_sheet_check();
+    try_compatible();
     try_queries();
     try_query_refusals();
     printf("every_entry: %zu answers compared, %zu differences\n", answers, differences);

@@ -83,6 +83,13 @@ typedef struct {
     size_t records; /* of a good sheet, else 0 */
 } rmk_sheet_answer;
 
+/* Answer of the compatibility test. */
+typedef struct {
+    uint8_t refusal;
+    uint8_t compatible; /* 1 for yes, 0 for no and on a refusal */
+    size_t offset;      /* on a refusal: as the sheet check gives it; else 0 */
+} rmk_compatible_answer;
+
 /* Answer of the leaf at a point. */
 typedef struct {
     uint8_t refusal;
@@ -208,6 +215,24 @@ rmk_crossed rmk_cross(const uint8_t *code, size_t code_length, uint8_t facet, ui
  *                      done with 2 records; its first 12 bytes are RMK_REFUSED_LEAF, offset 12.
  */
 rmk_sheet_answer rmk_sheet_check(const uint8_t *sheet, size_t sheet_length);
+
+/** Compatibility test: are the leaves of a sheet compatible? They are when, for each leaf and each facet not
+ * in a face of the cube, the same-depth cell across it, or that cell's parent, or one of that cell's
+ * children, is a leaf.
+ * \param [in] sheet    The sheet, as the sheet check takes it. The whole of it is checked at each call.
+ * \return              The refusal, 1 for yes or 0 for no, and the refusal's offset.
+ *
+ * Refusals, in order:  those of the sheet check, with its offset.
+ * Assumed:             `sheet` is non-null and valid for `sheet_length` bytes; 256 KiB of stack are left,
+ *                      most of which an index of 8,192 records takes.
+ * Example:             the sheet check's 24 bytes are compatible, 1. With its first record replaced by
+ *                      that leaf's halves, 02 01 01 02 and 02 01 02 81, they still are; with the first
+ *                      half replaced by its own halves, 02 02 01 02 00 and 02 02 81 02 01, no more: 0.
+ * Cost:                one pass to check the sheet and one to fill the index; then for each facet of each
+ *                      leaf one crossing, a search among the index's records and a walk from there over
+ *                      at most records / 8192 records more.
+ */
+rmk_compatible_answer rmk_compatible(const uint8_t *sheet, size_t sheet_length);
 
 /** Leaf at a point: the first leaf in tree order whose closed cell contains the point, and the point's
  * weights there.
