@@ -31,6 +31,15 @@ pub struct SheetAnswer {
     pub records: usize,
 }
 
+/// Compatible is 1 for yes and 0 for no.
+#[repr(C)]
+#[derive(Clone, Copy, PartialEq, Debug)]
+pub struct CompatibleAnswer {
+    pub refusal: u8,
+    pub compatible: u8,
+    pub offset: usize,
+}
+
 #[repr(C)]
 #[derive(Clone, Copy, PartialEq, Debug)]
 pub struct LeafAnswer {
@@ -71,6 +80,12 @@ impl PathWritten {
 impl Crossed {
     pub fn refused(refusal: u8) -> Crossed {
         Crossed { refusal, place: 0, length: 0 }
+    }
+}
+
+impl CompatibleAnswer {
+    pub fn refused(refusal: u8, offset: usize) -> CompatibleAnswer {
+        CompatibleAnswer { refusal, compatible: 0, offset }
     }
 }
 

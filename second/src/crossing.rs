@@ -61,14 +61,14 @@ pub fn across(found: &Found, facet: u8) -> Across {
     Ok((other, place.expect("the cell beyond a facet lacks a vertex of it")))
 }
 
-fn facet_of(cell: &Cell, lacking: usize) -> Vec<Point> {
+pub fn facet_of(cell: &Cell, lacking: usize) -> Vec<Point> {
     let mut vertices = cell.vertices.clone();
     vertices.remove(lacking);
     vertices
 }
 
 /// Some axis has the same coordinate, 0 or 4096, at all vertices.
-fn in_face_of_cube(facet: &[Point], d: usize) -> bool {
+pub fn in_face_of_cube(facet: &[Point], d: usize) -> bool {
     (0..d).any(|a| [0, CUBE_SIDE].iter().any(|x| facet.iter().all(|point| point[a] == *x)))
 }
 

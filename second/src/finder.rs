@@ -8,11 +8,22 @@ use crate::bisection::roots;
 use crate::codes::{entry_of, Code};
 use crate::sizes::*;
 
-/// Where a code's cell is: its root and the steps to it.
-#[derive(Clone, PartialEq, Eq, Debug)]
+/// Where a code's cell is: its root and the steps to it. The derived order is tree order.
+#[derive(Clone, PartialEq, Eq, PartialOrd, Ord, Hash, Debug)]
 pub struct Found {
     pub root: Vec<u8>,
     pub path: Vec<u8>,
+}
+
+impl Found {
+    pub fn child(&self, which: u8) -> Found {
+        Found { root: self.root.clone(), path: [&self.path[..], &[which]].concat() }
+    }
+
+    pub fn parent(&self) -> Option<Found> {
+        let (_last, path) = self.path.split_last()?;
+        Some(Found { root: self.root.clone(), path: path.to_vec() })
+    }
 }
 
 /// The steps of one level, the orthant that they append and the permutation that they lead to.

@@ -49,7 +49,7 @@ fn grow_roots(random: &mut Random, d: usize, rule: Rule) -> Vec<Leaf> {
     leaves
 }
 
-fn random_cell(random: &mut Random, d: usize, depth: usize) -> Found {
+pub fn random_cell(random: &mut Random, d: usize, depth: usize) -> Found {
     let path = inputs::good_path(random, depth);
     Found { root: inputs::good_root(random, d), path }
 }
@@ -108,6 +108,19 @@ pub fn sheet_of_depths(random: &mut Random, d: usize, depths: &[usize]) -> Vec<L
         }
     }
     leaves
+}
+
+/// A sheet cut, lengthened or with a byte changed.
+pub fn damaged(random: &mut Random, sheet: &[u8], kind: usize) -> Vec<u8> {
+    let mut bytes = sheet.to_vec();
+    let at = random.below(bytes.len());
+    match kind % 4 {
+        0 => bytes.truncate(at),
+        1 => bytes[at] ^= 1 << random.below(8),
+        2 => bytes[at] = random.byte(),
+        _ => bytes.extend([&MARK[..], &inputs::noise(random, at % 30)].concat()),
+    }
+    bytes
 }
 
 pub fn bytes(leaves: &[Leaf]) -> Vec<u8> {

@@ -96,9 +96,23 @@ impl Tally {
 
     /// Tells how many inputs a part of the run had.
     pub fn part(&mut self, part: &str) {
-        let compared = self.counts.iter().map(|row| row.1).sum();
+        let compared = self.inputs();
         println!("{}: {part}: {} inputs", self.name, compared - self.told);
         self.told = compared;
+    }
+
+    /// How many inputs there were.
+    pub fn inputs(&self) -> usize {
+        self.counts.iter().map(|row| row.1).sum()
+    }
+
+    /// Fails where an entry had less than one in so many of all inputs.
+    pub fn hold_share(&self, entry: &str, part: usize) {
+        let had: usize = self.counts.iter().filter(|row| row.0 == entry).map(|row| row.1).sum();
+        if part * had < self.inputs() {
+            println!("{}: {entry}: {had}, less than one in {part}", self.name);
+            std::process::exit(1);
+        }
     }
 
     /// The last line of a run without a difference.

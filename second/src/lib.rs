@@ -7,6 +7,7 @@
 pub mod answers; // the answers as the C side lays them out
 pub mod bisection; // "The cube and the bisection": points, roots, cells
 pub mod codes; // "The code": the step rule and the bytes
+pub mod compatible; // "Sheets": the compatibility test, by listing facets and by crossing
 pub mod crossing; // "Crossing", by geometry and by listing all cells
 pub mod entries; // the expected outcome of each entry on a code
 pub mod finder; // the root and the path of a code, by search
@@ -14,6 +15,7 @@ pub mod forests; // good sheets, as leaves of random forests
 pub mod inputs; // good, damaged and random inputs
 pub mod lent; // lent outputs and the comparison of outcomes
 pub mod listing; // "The listing program": the text of a sheet
+pub mod mending; // compatible sheets, as leaves of forests that are mended
 pub mod points; // points in, on and around cells
 pub mod queries; // "Sheets": the leaf and the grey value at a point
 pub mod random; // a repeatable source of numbers

@@ -59,6 +59,16 @@ impl Tree {
         }
     }
 
+    fn cells(&self, here: Found, cells: &mut Vec<Found>) {
+        match self {
+            Tree::Leaf(_) => cells.push(here),
+            Tree::Split(zero, one) => {
+                zero.cells(here.child(0), cells);
+                one.cells(here.child(1), cells);
+            }
+        }
+    }
+
     fn sampled(&self, cell: Cell, sheet: &[u8], leaves: &mut Vec<Sampled>) {
         match self {
             Tree::Leaf(at) => {
@@ -94,6 +104,17 @@ impl<'a> Sheets<'a> {
             tree.codes(&Code::root(root), &mut codes);
         }
         Ok(codes)
+    }
+
+    /// The cells of a good sheet's leaves in tree order, each as its root and its path.
+    pub fn cells(&self, sheet: &[u8]) -> Result<Vec<Found>, Refused> {
+        let trees = self.forest(sheet)?;
+        let d = sheet[MARK.len()] as usize;
+        let mut cells = Vec::new();
+        for (root, tree) in roots(d).into_iter().zip(&trees) {
+            tree.cells(Found { root, path: Vec::new() }, &mut cells);
+        }
+        Ok(cells)
     }
 
     /// The leaves of a good sheet in tree order, with their samples.

@@ -3,13 +3,15 @@
 use second::answers::{LeafAnswer, ValueAnswer};
 use second::bisection::{Cell, Point};
 use second::finder::Finder;
-use second::forests::{bytes, deepest_sheet, good_sheet, sheet_of_at_least, sheet_of_depths, Leaf};
+use second::forests::{
+    self, bytes, deepest_sheet, good_sheet, sheet_of_at_least, sheet_of_depths, Leaf,
+};
 use second::inputs::{self, Options, LOST};
 use second::lent::{Lent, Tally};
 use second::points;
 use second::queries::{self, Asked};
 use second::random::Random;
-use second::sheets::{samples_length, Sheets, MARK};
+use second::sheets::{samples_length, Sheets};
 use second::sizes::*;
 use second::worked;
 
@@ -116,14 +118,7 @@ impl Comparison<'_> {
     /// The sheet cut, lengthened or with a byte changed: asked for a point in the cube, one outside it and
     /// one of no coordinates.
     fn damaged(&mut self, sheet: &Sheet, kind: usize) {
-        let mut bytes = sheet.bytes.clone();
-        let at = self.random.below(bytes.len());
-        match kind % 4 {
-            0 => bytes.truncate(at),
-            1 => bytes[at] ^= 1 << self.random.below(8),
-            2 => bytes[at] = self.random.byte(),
-            _ => bytes.extend([&MARK[..], &inputs::noise(&mut self.random, at % 30)].concat()),
-        }
+        let bytes = forests::damaged(&mut self.random, &sheet.bytes, kind);
         let damaged = self.read(bytes, sheet.d);
         let inside = points::anywhere(&mut self.random, sheet.d);
         self.point(&damaged, &inside);
