@@ -29,14 +29,15 @@ typedef struct {
     rmk_written (*parent)(const uint8_t *, size_t, uint8_t *, size_t);
     rmk_crossed (*cross)(const uint8_t *, size_t, uint8_t, uint8_t *, size_t);
     rmk_sheet_answer (*sheet_check)(const uint8_t *, size_t);
+    rmk_compatible_answer (*compatible)(const uint8_t *, size_t);
     rmk_leaf_answer (*leaf_at)(const uint8_t *, size_t, const uint8_t *, size_t, uint8_t *, size_t);
     rmk_value_answer (*value_at)(const uint8_t *, size_t, const uint8_t *, size_t);
 } entries;
 
 static const entries plain = {plain_code_check, plain_path_to_code, plain_code_to_path,
                               plain_vertices,   plain_child,        plain_parent,
-                              plain_cross,      plain_sheet_check,  plain_leaf_at,
-                              plain_value_at};
+                              plain_cross,      plain_sheet_check,  plain_compatible,
+                              plain_leaf_at,    plain_value_at};
 
 /* Plain C that keeps the next cell as a code: the sheet check alone. */
 static const entries by_next = {.sheet_check = plain_sheet_by_next};
@@ -48,6 +49,9 @@ static const entries by_next = {.sheet_check = plain_sheet_by_next};
 #ifdef NO_SHEETS
 #define rmk_sheet_check NULL
 #endif
+#ifdef NO_COMPATIBLE
+#define rmk_compatible NULL
+#endif
 #ifdef NO_LEAF_AT
 #define rmk_leaf_at NULL
 #endif
@@ -56,7 +60,7 @@ static const entries by_next = {.sheet_check = plain_sheet_by_next};
 #endif
 static const entries ours = {rmk_code_check, rmk_path_to_code, rmk_code_to_path, rmk_vertices,
                              rmk_child,      rmk_parent,       rmk_cross,        rmk_sheet_check,
-                             rmk_leaf_at,    rmk_value_at};
+                             rmk_compatible, rmk_leaf_at,      rmk_value_at};
 
 /* A random cell. */
 typedef struct {
@@ -186,6 +190,41 @@ static void sized_sheet(uint8_t d, size_t leaves)
         add_leaves(root, 2u + d, (leaves - sheet_records) / left);
 }
 
+/* The cells of a depth inside a cell, `left` of them to come in the whole sheet, some of which, `halved` of them to come, are
+ * split once more: each with the chance that meets the number. */
+static void add_cells(const uint8_t *code, size_t length, unsigned depth, size_t *left, size_t *halved)
+{
+    unsigned split = code[1] < depth;
+    if (code[1] == depth) {
+        split = random_below(*left) < *halved;
+        *left -= 1;
+        *halved -= split;
+    }
+    if (!split) {
+        add_leaf(code, length);
+        return;
+    }
+    for (uint8_t which = 0; which < 2; which++) {
+        uint8_t child[RMK_LONGEST_CODE];
+        rmk_written written = plain_child(code, length, which, child, sizeof child);
+        add_cells(child, written.length, depth, left, halved);
+    }
+}
+
+/* A compatible sheet of so many leaves, of two depths: the cells across are leaves, or parents or children of leaves. */
+static void compatible_sheet(uint8_t d, size_t leaves)
+{
+    uint8_t root[RMK_LONGEST_CODE] = {d, 0};
+    unsigned depth = 0;
+    size_t left = d == 2 ? 2 : d == 3 ? 6 : 24;
+    for (; 2 * left <= leaves; left *= 2)
+        depth++;
+    size_t halved = leaves - left;
+    sheet_length = sheet_records = 0;
+    for (unsigned digits = 0; next_root(root, &digits);)
+        add_cells(root, 2u + d, depth, &left, &halved);
+}
+
 /* Anywhere in the cube. */
 static void random_points(uint8_t d)
 {
@@ -278,6 +317,11 @@ static uint64_t cross_round(const entries *e)
 static uint64_t sheet_check_round(const entries *e)
 {
     return e->sheet_check(sheet, sheet_length).records;
+}
+
+static uint64_t compatible_round(const entries *e)
+{
+    return e->compatible(sheet, sheet_length).compatible;
 }
 
 static uint64_t leaf_at_round(const entries *e)
@@ -402,7 +446,31 @@ static void sheet_tables(void)
             record_row(d, leaves);
 }
 
-/* One row of the fourth: a query beside plain C and beside our sheet check alone, for each call. */
+/* One row of the fourth: a compatible sheet, so that every facet is judged, for each record. A large one is not read often. */
+static void compatible_row(uint8_t d, size_t leaves)
+{
+    compatible_sheet(d, leaves);
+    if (sheet_records != leaves || compatible_round(&plain) != 1) {
+        fprintf(stderr, "the sheet is not compatible\n");
+        exit(1);
+    }
+    medians m = measure(compatible_round, &plain, 1 + 200000 / leaves);
+    double records = (double)sheet_records;
+    printf("| compatible, dimension %u | %zu | %.1f | %.1f | %.2f |\n", d, sheet_records, m.our_time / records,
+           m.other_time / records, m.ratio);
+}
+
+static void compatible_table(void)
+{
+    if (!ours.compatible)
+        return;
+    printf("\n| entry | leaves | ours, ns a record | plain C, ns | ratio |\n|---|---|---|---|---|\n");
+    for (uint8_t d = 2; d <= 4; d++)
+        for (size_t leaves = 1000; leaves <= 1000000; leaves *= 10)
+            compatible_row(d, leaves);
+}
+
+/* One row of the fifth: a query beside plain C and beside our sheet check alone, for each call. */
 static void query_row(const char *name, round_of *round, uint8_t d)
 {
     sized_sheet(d, QUERY_LEAVES);
@@ -472,6 +540,7 @@ int main(int count, char **words)
         row(sheet_names[d - 2], sheet_check_round, sheet_records);
     }
     sheet_tables();
+    compatible_table();
     query_table();
     return 0;
 }

@@ -4,6 +4,7 @@
  */
 #include "plain.h"
 
+#include <stdlib.h>
 #include <string.h>
 
 #define MINUS 128u
@@ -255,6 +256,19 @@ rmk_written plain_vertices(const uint8_t *code, size_t code_length, uint8_t *poi
     return written(RMK_DONE, length);
 }
 
+/* A child's code, of a good code that may be split. Gives its length. */
+static inline size_t put_child(const uint8_t *code, size_t code_length, header h, unsigned which, uint8_t *out)
+{
+    memcpy(out, code, code_length);
+    out[1] = (uint8_t)(h.depth + 1);
+    if (which)
+        turn_left(out + HEAD, h.k);
+    if (h.k > 1)
+        return code_length;
+    out[code_length] = orthant_of(out + HEAD, h.d);
+    return code_length + 1;
+}
+
 rmk_written plain_child(const uint8_t *code, size_t code_length, uint8_t which, uint8_t *out,
                         size_t out_length)
 {
@@ -265,16 +279,20 @@ rmk_written plain_child(const uint8_t *code, size_t code_length, uint8_t which, 
         return written(RMK_REFUSED_STEP, 0);
     if (h.depth == RMK_HALVINGS * h.d)
         return written(RMK_REFUSED_DEEPEST, 0);
-    size_t length = h.k == 1 ? code_length + 1 : code_length;
-    if (out_length < length)
+    if (out_length < (h.k == 1 ? code_length + 1 : code_length))
         return written(RMK_REFUSED_SHORT, 0);
-    memcpy(out, code, code_length);
-    out[1] = (uint8_t)(h.depth + 1);
-    if (which)
-        turn_left(out + HEAD, h.k);
-    if (h.k == 1)
-        out[code_length] = orthant_of(out + HEAD, h.d);
-    return written(RMK_DONE, length);
+    return written(RMK_DONE, put_child(code, code_length, h, which, out));
+}
+
+/* The parent's code, of a good code that is no root's. Gives its length. */
+static inline size_t put_parent(const uint8_t *code, size_t code_length, header h, uint8_t *out)
+{
+    unsigned new_level = h.k == h.d, k = new_level ? 1 : h.k + 1;
+    size_t length = code_length - new_level;
+    memcpy(out, code, length);
+    out[1] = (uint8_t)(h.depth - 1);
+    step_back(out + HEAD, k, own_sign(code + HEAD + h.d, h.boxes - new_level));
+    return length;
 }
 
 rmk_written plain_parent(const uint8_t *code, size_t code_length, uint8_t *out, size_t out_length)
@@ -284,14 +302,9 @@ rmk_written plain_parent(const uint8_t *code, size_t code_length, uint8_t *out, 
         return written(h.refusal, 0);
     if (h.depth == 0)
         return written(RMK_REFUSED_ROOT, 0);
-    unsigned new_level = h.k == h.d, k = new_level ? 1 : h.k + 1;
-    size_t length = code_length - new_level;
-    if (out_length < length)
+    if (out_length < code_length - (h.k == h.d))
         return written(RMK_REFUSED_SHORT, 0);
-    memcpy(out, code, length);
-    out[1] = (uint8_t)(h.depth - 1);
-    step_back(out + HEAD, k, own_sign(code + HEAD + h.d, h.boxes - new_level));
-    return written(RMK_DONE, length);
+    return written(RMK_DONE, put_parent(code, code_length, h, out));
 }
 
 static void swap(uint8_t *p, uint8_t *q)
@@ -341,6 +354,35 @@ static unsigned carry(const uint8_t *orthants, unsigned boxes, unsigned bit, uns
     return 0;
 }
 
+/* Where a crossing leads out of the box: on which axis, and through how many boxes above. */
+typedef struct {
+    unsigned leaves_box, bit, flips;
+} way_out;
+
+static inline way_out way_across(const uint8_t *entries, header h, unsigned facet)
+{
+    const uint8_t *orthants = entries + h.d;
+    uint8_t entry = facet == 0 ? entries[0] : entries[h.d - 1];
+    way_out way = {facet == h.d || (facet == 0 && h.k == h.d), 1u << (axis_of(entry) - 1), 0};
+    if (facet == h.d)
+        way.flips = carry(orthants, h.boxes, way.bit, is_minus(entry) ? 0 : way.bit);
+    else if (way.leaves_box)
+        way.flips = h.boxes > 0; /* to the other half of the box above */
+    return way;
+}
+
+static int leaves_cube(way_out way) { return way.leaves_box && way.flips == 0; }
+
+/* The code of the cell across a facet that is not in a face of the cube. Gives the place of the new vertex. */
+static inline unsigned put_across(const uint8_t *code, size_t code_length, header h, unsigned facet, way_out way,
+                                  uint8_t *out)
+{
+    memcpy(out, code, code_length);
+    for (unsigned n = 1; n <= way.flips; n++)
+        out[code_length - n] ^= (uint8_t)way.bit;
+    return cross_entries(out + HEAD, h, facet, own_sign(code + HEAD + h.d, h.boxes));
+}
+
 static rmk_crossed not_crossed(uint8_t refusal)
 {
     rmk_crossed answer = {refusal, 0, 0};
@@ -355,22 +397,12 @@ rmk_crossed plain_cross(const uint8_t *code, size_t code_length, uint8_t facet, 
         return not_crossed(h.refusal);
     if (facet > h.d)
         return not_crossed(RMK_REFUSED_STEP);
-    const uint8_t *entries = code + HEAD, *orthants = entries + h.d;
-    uint8_t entry = facet == 0 ? entries[0] : entries[h.d - 1];
-    unsigned bit = 1u << (axis_of(entry) - 1), flips = 0;
-    unsigned leaves_box = facet == h.d || (facet == 0 && h.k == h.d);
-    if (facet == h.d)
-        flips = carry(orthants, h.boxes, bit, is_minus(entry) ? 0 : bit);
-    else if (leaves_box)
-        flips = h.boxes > 0; /* to the other half of the box above */
-    if (leaves_box && flips == 0)
+    way_out way = way_across(code + HEAD, h, facet);
+    if (leaves_cube(way))
         return not_crossed(RMK_REFUSED_FACE);
     if (out_length < code_length)
         return not_crossed(RMK_REFUSED_SHORT);
-    memcpy(out, code, code_length);
-    for (unsigned n = 1; n <= flips; n++)
-        out[code_length - n] ^= (uint8_t)bit;
-    unsigned place = cross_entries(out + HEAD, h, facet, own_sign(orthants, h.boxes));
+    unsigned place = put_across(code, code_length, h, facet, way, out);
     rmk_crossed answer = {RMK_DONE, (uint8_t)place, code_length};
     return answer;
 }
@@ -563,6 +595,96 @@ rmk_sheet_answer plain_sheet_by_next(const uint8_t *sheet, size_t sheet_length)
         answer.offset = at;
     else
         answer.records = records;
+    return answer;
+}
+
+/* The codes of a good sheet's leaves, each at the first free slot from its hash on. At most half the slots are taken. */
+typedef struct {
+    const uint8_t **slots;
+    size_t mask;
+} leaf_set;
+
+static size_t hash_of(const uint8_t *code, size_t length)
+{
+    uint64_t words[3] = {0}, hash = 0; /* the longest code has 18 bytes */
+    memcpy(words, code, length);
+    for (unsigned i = 0; i < 3; i++)
+        hash = (hash ^ words[i] ^ hash >> 32) * 0x9e3779b97f4a7c15u;
+    return (size_t)(hash ^ hash >> 32);
+}
+
+/* The first two bytes of a code say how long it is, so that no shorter one is read past its end. */
+static int is_leaf(const leaf_set *leaves, const uint8_t *code, size_t length)
+{
+    for (size_t at = hash_of(code, length) & leaves->mask; leaves->slots[at]; at = (at + 1) & leaves->mask)
+        if (memcmp(leaves->slots[at], code, HEAD) == 0 && memcmp(leaves->slots[at], code, length) == 0)
+            return 1;
+    return 0;
+}
+
+static leaf_set leaves_of(const uint8_t *sheet, size_t records)
+{
+    leaf_set leaves = {NULL, 1};
+    while (leaves.mask < 2 * records)
+        leaves.mask = 2 * leaves.mask + 1;
+    leaves.slots = calloc(leaves.mask + 1, sizeof *leaves.slots);
+    if (!leaves.slots)
+        abort();
+    for (size_t n = 0; n < records; n++) {
+        header h = read_head(sheet + MARK);
+        size_t at = hash_of(sheet + MARK, HEAD + h.d + h.boxes) & leaves.mask;
+        while (leaves.slots[at])
+            at = (at + 1) & leaves.mask;
+        leaves.slots[at] = sheet + MARK;
+        sheet += record_length(h);
+    }
+    return leaves;
+}
+
+/* Is a cell, or its parent, or one of its children, a leaf? */
+static int is_near_leaf(const leaf_set *leaves, const uint8_t *code, size_t length, header h)
+{
+    uint8_t other[RMK_LONGEST_CODE];
+    if (is_leaf(leaves, code, length))
+        return 1;
+    if (h.depth > 0 && is_leaf(leaves, other, put_parent(code, length, h, other)))
+        return 1;
+    for (unsigned which = 0; which < 2 && h.depth < RMK_HALVINGS * h.d; which++)
+        if (is_leaf(leaves, other, put_child(code, length, h, which, other)))
+            return 1;
+    return 0;
+}
+
+/* Is each facet of a leaf in a face of the cube, or the cell across it near a leaf? */
+static int meets_leaves(const leaf_set *leaves, const uint8_t *code, header h)
+{
+    size_t length = HEAD + h.d + h.boxes;
+    uint8_t across[RMK_LONGEST_CODE];
+    for (unsigned facet = 0; facet <= h.d; facet++) {
+        way_out way = way_across(code + HEAD, h, facet);
+        if (leaves_cube(way))
+            continue;
+        put_across(code, length, h, facet, way, across);
+        if (!is_near_leaf(leaves, across, length, h))
+            return 0;
+    }
+    return 1;
+}
+
+rmk_compatible_answer plain_compatible(const uint8_t *sheet, size_t sheet_length)
+{
+    rmk_sheet_answer checked = plain_sheet_by_next(sheet, sheet_length);
+    rmk_compatible_answer answer = {checked.refusal, 0, checked.offset};
+    if (answer.refusal)
+        return answer;
+    leaf_set leaves = leaves_of(sheet, checked.records);
+    answer.compatible = 1;
+    for (size_t n = 0; n < checked.records && answer.compatible; n++) {
+        header h = read_head(sheet + MARK);
+        answer.compatible = (uint8_t)meets_leaves(&leaves, sheet + MARK, h);
+        sheet += record_length(h);
+    }
+    free(leaves.slots);
     return answer;
 }
 

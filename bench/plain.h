@@ -1,6 +1,7 @@
 /*
  * plain.h: the entries of reshmokhit.h in plain C, the measure that the proved library is held to.
- * Same bytes, same checks, same order of refusals; the parameters are those of the rmk_ entries.
+ * Same bytes, same checks, same order of refusals; the parameters are those of the rmk_ entries. The compatibility test alone
+ * allocates memory.
  */
 #ifndef PLAIN_H
 #define PLAIN_H
@@ -20,6 +21,7 @@ rmk_written plain_parent(const uint8_t *code, size_t code_length, uint8_t *out, 
 rmk_crossed plain_cross(const uint8_t *code, size_t code_length, uint8_t facet, uint8_t *out,
                         size_t out_length);
 rmk_sheet_answer plain_sheet_check(const uint8_t *sheet, size_t sheet_length);
+rmk_compatible_answer plain_compatible(const uint8_t *sheet, size_t sheet_length);
 rmk_leaf_answer plain_leaf_at(const uint8_t *sheet, size_t sheet_length, const uint8_t *point,
                               size_t point_length, uint8_t *weights, size_t weights_length);
 rmk_value_answer plain_value_at(const uint8_t *sheet, size_t sheet_length, const uint8_t *point,
