@@ -224,13 +224,13 @@ rmk_sheet_answer rmk_sheet_check(const uint8_t *sheet, size_t sheet_length);
  *
  * Refusals, in order:  those of the sheet check, with its offset.
  * Assumed:             `sheet` is non-null and valid for `sheet_length` bytes; 256 KiB of stack are left,
- *                      most of which an index of 8,192 records takes.
+ *                      most of which an index of 10,240 records takes.
  * Example:             the sheet check's 24 bytes are compatible, 1. With its first record replaced by
  *                      that leaf's halves, 02 01 01 02 and 02 01 02 81, they still are; with the first
  *                      half replaced by its own halves, 02 02 01 02 00 and 02 02 81 02 01, no more: 0.
  * Cost:                one pass to check the sheet and one to fill the index; then for each facet of each
- *                      leaf one crossing, a search among the index's records and a walk from there over
- *                      at most records / 8192 records more.
+ *                      leaf one crossing and one search, or two where the cell across is split: among
+ *                      the index's records by halving, and from there over at most records / 10240 more.
  */
 rmk_compatible_answer rmk_compatible(const uint8_t *sheet, size_t sheet_length);
 

@@ -24,8 +24,8 @@ pub struct CompatibleAnswer {
     pub offset: usize,
 }
 
-// How many entries the index of a sheet has room for, and three numbers for each: 192 KiB of the stack.
-const ENTRIES: usize = 8192;
+// How many entries the index of a sheet has room for, and three numbers for each: 240 KiB of the stack.
+const ENTRIES: usize = 10240;
 const INDEX_ROOM: usize = 3 * ENTRIES;
 
 // Whether the cell found is itself a leaf.

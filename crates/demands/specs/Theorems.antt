@@ -1,4 +1,5 @@
 -- The demands hold.
 pub mod Numbers
 pub mod One
+pub mod Two
 pub mod Three

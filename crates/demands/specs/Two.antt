@@ -4,8 +4,9 @@ use mathlib.Core.Path.{_≡_}
 use mathlib.Core.List.{List}
 use Prim.Native.Nat.{ℕ}
 use lib.ListN.{length, take}
+use lib.Ieee.{Float}
 use Rattle.dimension.specs.Sizes.{splitPlace}
-use Rattle.bisection.specs.Cells.{Cell, cellOf, cellBytes, child}
+use Rattle.bisection.specs.Cells.{Cell, cellOf, cellBytes, pointBytes, child}
 use Rattle.bisection.specs.Roots.{GoodRoot, GoodPath}
 use Rattle.bisection.specs.Codes.{dimensionOf, depthOf}
 use Rattle.bisection.specs.Refusals.{done}
@@ -14,10 +15,13 @@ use Rattle.codes.specs.declared.Written.{Written}
 use Rattle.codes.specs.declared.PathWritten.{PathWritten}
 use Rattle.codes.specs.Outcomes.{PathToCode, CodeToPath, Vertices, Child, Parent}
 use Rattle.sheets.specs.declared.SheetAnswer.{SheetAnswer}
-use Rattle.sheets.specs.Sheets.{SheetIs, Good}
+use Rattle.sheets.specs.Sheets.{SheetIs, Good, sampleWidth, samplesOf}
 use Rattle.points.specs.Points.{pointOf}
 use Rattle.queries.specs.declared.LeafAnswer.{LeafAnswer}
-use Rattle.queries.specs.Queries.{LeafIs, LeafAt}
+use Rattle.queries.specs.Queries.{LeafIs, LeafAt, LeafWeights, ValueIs, sideIn}
+use Rattle.greys.specs.declared.Value.the-variants.{Grey}
+use Rattle.greys.specs.Fractions.{Fraction}
+use Rattle.greys.specs.Samples.{greySum}
 use Rattle.compatible.specs.declared.CompatibleAnswer.{CompatibleAnswer}
 use Rattle.compatible.specs.Compatible.{CompatibleIs, Compatible}
 
@@ -26,6 +30,25 @@ pub record OneCode (vs : Cell) : Type 0 where
   pub code : List ℕ
   pub its : IsCell code vs
   pub only : (code' : List ℕ) → IsCell code' vs → code' ≡ code
+
+-- the first leaf of the sheet whose closed cell contains the point, with its weights of sum s, as bytes
+pub record LeafThere (sheet point : List ℕ) (number : ℕ) (bytes : List ℕ) : Type 0 where
+  pub count : ℕ
+  pub good : Good sheet count
+  pub leaf : LeafAt (good .cells) (pointOf point) number
+  pub weights : List ℕ
+  pub weighs : LeafWeights (good .cells) number (pointOf point) weights
+  pub bytes-are : bytes ≡ pointBytes weights
+
+-- its weights times its samples, divided by s
+pub record ValueThere (sheet point : List ℕ) (x : Float) : Type 0 where
+  pub count : ℕ
+  pub good : Good sheet count
+  pub number : ℕ
+  pub leaf : LeafAt (good .cells) (pointOf point) number
+  pub weights : List ℕ
+  pub weighs : LeafWeights (good .cells) number (pointOf point) weights
+  pub is : Fraction x (greySum sampleWidth weights (samplesOf (good .records) number)) (sideIn (good .cells) number)
 
 pub record Demand2 : Type 0 where
   -- what the one writes, given to the other, comes back
@@ -45,7 +68,8 @@ pub record Demand2 : Type 0 where
   -- the sheet check's yes is exactly a good sheet, and the count is that of its records
   pub yes-good : (sheet : List ℕ) (r : SheetAnswer) → SheetIs sheet r → r .refusal ≡ done → Good sheet (r .records)
   pub good-yes : (sheet : List ℕ) (r : SheetAnswer) → SheetIs sheet r → (n : ℕ) → Good sheet n → (r .refusal ≡ done) × (r .records ≡ n)
-  -- the leaf at a point is the first whose closed cell contains it
-  pub leaf-at : (sheet point before : List ℕ) (r : LeafAnswer) (after : List ℕ) → LeafIs sheet point before r after → r .refusal ≡ done → (n : ℕ) (g : Good sheet n) → LeafAt (g .cells) (pointOf point) (r .number)
+  -- the point queries' answers are those of the cells
+  pub leaf-at : (sheet point before : List ℕ) (r : LeafAnswer) (after : List ℕ) → LeafIs sheet point before r after → r .refusal ≡ done → LeafThere sheet point (r .number) (take (r .length) after)
+  pub value-at : (sheet point : List ℕ) (x : Float) → ValueIs sheet point (Grey x) → ValueThere sheet point x
   -- a sheet is said to be compatible exactly where it is
   pub compatible : (sheet : List ℕ) (r : CompatibleAnswer) → CompatibleIs sheet r → (n : ℕ) (g : Good sheet n) → (r .compatible ≡ 1 → Compatible (g .cells)) × (Compatible (g .cells) → r .compatible ≡ 1)

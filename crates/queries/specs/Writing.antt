@@ -30,7 +30,7 @@ pub record Writing (d boxes : ℕ) (w out₀ : List ℕ) (n : ℕ) (out : List �
   pub inside : n ≤ suc d
   pub putting : Putting 0 (weightBytes d boxes w) out₀ (2 * n) (pointBytes (drop n (halved d boxes w))) out
 
-bytes-length : (ws : List ℕ) → length (pointBytes ws) ≡ 2 * length ws
+pub bytes-length : (ws : List ℕ) → length (pointBytes ws) ≡ 2 * length ws
 unfolding pointBytes
 bytes-length [] = refl
 bytes-length (w ∷ ws) = omega (arith, bytes-length ws)

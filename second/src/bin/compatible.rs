@@ -27,8 +27,8 @@ const REFUSED: &str = "compatible, refused";
 const PART: usize = 4;
 
 /// Records of sheets about as large as the library's index has entries, and larger.
-const INDEX: usize = 8192;
-const RECORDS: [usize; 6] = [INDEX - 1, INDEX, INDEX + 1, 10_000, 2 * INDEX + 1, 20_000];
+const INDEX: usize = 10240;
+const RECORDS: [usize; 6] = [INDEX - 1, INDEX, INDEX + 1, 15_000, 2 * INDEX + 1, 30_000];
 
 /// Leaves at which a random forest has grown enough, at most: so many for each dimension from 2 on. A box
 /// has more cells in higher ones.
@@ -183,7 +183,7 @@ impl Comparison<'_> {
         for (d, records) in DIMENSIONS.iter().flat_map(|d| RECORDS.map(|records| (*d, records))) {
             self.large(d, records);
         }
-        self.tally.part("about 8,192 records and more");
+        self.tally.part("about 10,240 records and more");
     }
 
     /// As many more sheets as were asked for, or a few above: forests that grow in one way or another.
