@@ -6,7 +6,7 @@ use mathlib.Core.Logic.{_≢_}
 use Prim.Native.Nat.{ℕ}
 use lib.ListN.{length}
 use Rattle.bisection.specs.Cells.{cellOf}
-use Rattle.bisection.specs.Codes.{codeOf, IsCodeOf, dimensionOf, depthOf}
+use Rattle.bisection.specs.Codes.{codeOf, IsCodeOf}
 use Rattle.bisection.specs.Facets.{facet, HasAll, IsCell, Shares, Across}
 use Rattle.bisection.specs.Theorems.CodePaths.{one-path, length-root, length-path-of}
 use Rattle.sheets.specs.Forests.{TreeCell, treeCell}

@@ -11,7 +11,7 @@ use lib.Seq.{take-at}
 use Rattle.dimension.specs.Sizes.{longestOfAll, codeLength}
 use Rattle.dimension.specs.Laws.{dimension, code-longest}
 use Rattle.bisection.specs.Cells.{cellOf}
-use Rattle.bisection.specs.Codes.{codeOf, IsCodeOf, dimensionOf, depthOf}
+use Rattle.bisection.specs.Codes.{IsCodeOf, dimensionOf}
 use Rattle.bisection.specs.Facets.{facet, InFace, IsCell, Across}
 use Rattle.bisection.specs.Refusals.{done, codeRefusal}
 use Rattle.bisection.specs.Theorems.CodePaths.{code-passes, one-path, length-root, length-path-of}

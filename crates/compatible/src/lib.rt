@@ -26,6 +26,7 @@ pub struct CompatibleAnswer {
 
 // How many entries the index of a sheet has room for, and three numbers for each: 240 KiB of the stack.
 const ENTRIES: usize = 10240;
+
 const INDEX_ROOM: usize = 3 * ENTRIES;
 
 // Whether the cell found is itself a leaf.
@@ -144,14 +145,7 @@ fn all_hold(
         let start = offset + sheets::MARK_LENGTH;
         let depth = codes::code_depth(&sheet[start..]);
         let end = start + Dim::checked(dimension).code_length(depth);
-        if !leaf_holds(
-            edition,
-            sheet,
-            dimension,
-            index,
-            spread,
-            &sheet[start..end],
-        ) {
+        if !leaf_holds(edition, sheet, dimension, index, spread, &sheet[start..end]) {
             return false;
         }
         offset += finding::record_length(edition, dimension, depth);

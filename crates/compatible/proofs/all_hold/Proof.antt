@@ -30,27 +30,54 @@ checked-requires : tie.Need-checked-requires Inv-loop μ-loop
 checked-requires c κs = let test : tie.In-loop Inv-loop μ-loop = search in record-known (judging-at (test .before .loop .inv) (test .loop-test .taken))
 
 add-end : tie.Need-add-end Inv-loop μ-loop
-add-end c = let test : tie.In-loop Inv-loop μ-loop = search in let read : tie.After-code-depth Inv-loop μ-loop = search in let axes : tie.After-checked Inv-loop μ-loop = search in let size : tie.After-code-length Inv-loop μ-loop = search in omega (arith, test .before .loop .inv .long, judging-end-code (test .before .loop .inv) (test .loop-test .taken) (read .code-depth .ensures) (axes .checked .ensures) (size .code-length .ensures))
+add-end c =
+    let test : tie.In-loop Inv-loop μ-loop = search in
+    let read : tie.After-code-depth Inv-loop μ-loop = search in
+    let axes : tie.After-checked Inv-loop μ-loop = search in
+    let size : tie.After-code-length Inv-loop μ-loop = search in
+    omega (arith, test .before .loop .inv .long, judging-end-code (test .before .loop .inv) (test .loop-test .taken) (read .code-depth .ensures) (axes .checked .ensures) (size .code-length .ensures))
 
 sub-leaf-holds : tie.Need-sub-leaf-holds Inv-loop μ-loop
-sub-leaf-holds c = let test : tie.In-loop Inv-loop μ-loop = search in let read : tie.After-code-depth Inv-loop μ-loop = search in let axes : tie.After-checked Inv-loop μ-loop = search in let size : tie.After-code-length Inv-loop μ-loop = search in omega (arith, test .before .loop .inv .long, judging-end-code (test .before .loop .inv) (test .loop-test .taken) (read .code-depth .ensures) (axes .checked .ensures) (size .code-length .ensures))
+sub-leaf-holds c =
+    let test : tie.In-loop Inv-loop μ-loop = search in
+    let read : tie.After-code-depth Inv-loop μ-loop = search in
+    let axes : tie.After-checked Inv-loop μ-loop = search in
+    let size : tie.After-code-length Inv-loop μ-loop = search in
+    omega (arith, test .before .loop .inv .long, judging-end-code (test .before .loop .inv) (test .loop-test .taken) (read .code-depth .ensures) (axes .checked .ensures) (size .code-length .ensures))
 
 part-leaf-holds-start : tie.Need-part-leaf-holds-start Inv-loop μ-loop
-part-leaf-holds-start c = let test : tie.In-loop Inv-loop μ-loop = search in let read : tie.After-code-depth Inv-loop μ-loop = search in let axes : tie.After-checked Inv-loop μ-loop = search in let size : tie.After-code-length Inv-loop μ-loop = search in omega (arith, test .before .loop .inv .long, judging-end-code (test .before .loop .inv) (test .loop-test .taken) (read .code-depth .ensures) (axes .checked .ensures) (size .code-length .ensures))
+part-leaf-holds-start c =
+    let test : tie.In-loop Inv-loop μ-loop = search in
+    let read : tie.After-code-depth Inv-loop μ-loop = search in
+    let axes : tie.After-checked Inv-loop μ-loop = search in
+    let size : tie.After-code-length Inv-loop μ-loop = search in
+    omega (arith, test .before .loop .inv .long, judging-end-code (test .before .loop .inv) (test .loop-test .taken) (read .code-depth .ensures) (axes .checked .ensures) (size .code-length .ensures))
 
 part-leaf-holds-end : tie.Need-part-leaf-holds-end Inv-loop μ-loop
-part-leaf-holds-end c = let test : tie.In-loop Inv-loop μ-loop = search in let read : tie.After-code-depth Inv-loop μ-loop = search in let axes : tie.After-checked Inv-loop μ-loop = search in let size : tie.After-code-length Inv-loop μ-loop = search in omega (arith, test .before .loop .inv .long, judging-end-code (test .before .loop .inv) (test .loop-test .taken) (read .code-depth .ensures) (axes .checked .ensures) (size .code-length .ensures))
+part-leaf-holds-end c =
+    let test : tie.In-loop Inv-loop μ-loop = search in
+    let read : tie.After-code-depth Inv-loop μ-loop = search in
+    let axes : tie.After-checked Inv-loop μ-loop = search in
+    let size : tie.After-code-length Inv-loop μ-loop = search in
+    omega (arith, test .before .loop .inv .long, judging-end-code (test .before .loop .inv) (test .loop-test .taken) (read .code-depth .ensures) (axes .checked .ensures) (size .code-length .ensures))
 
 leaf-holds-requires : tie.Need-leaf-holds-requires Inv-loop μ-loop
-leaf-holds-requires c κs = let test : tie.In-loop Inv-loop μ-loop = search in let read : tie.After-code-depth Inv-loop μ-loop = search in let axes : tie.After-checked Inv-loop μ-loop = search in let size : tie.After-code-length Inv-loop μ-loop = search in 
+leaf-holds-requires c κs =
+    let test : tie.In-loop Inv-loop μ-loop = search in
+    let read : tie.After-code-depth Inv-loop μ-loop = search in
+    let axes : tie.After-checked Inv-loop μ-loop = search in
+    let size : tie.After-code-length Inv-loop μ-loop = search in
     (judging-leaf (test .before .loop .inv) (test .loop-test .taken) (read .code-depth .ensures) (axes .checked .ensures) (size .code-length .ensures), judging-axes (test .before .loop .inv) (test .loop-test .taken))
 
 record-length-requires : tie.Need-record-length-requires Inv-loop μ-loop
-record-length-requires c κs = let test : tie.In-loop Inv-loop μ-loop = search in let read : tie.After-code-depth Inv-loop μ-loop = search in 
+record-length-requires c κs = let test : tie.In-loop Inv-loop μ-loop = search in let read : tie.After-code-depth Inv-loop μ-loop = search in
     let at = judging-at (test .before .loop .inv) (test .loop-test .taken) in (record-known at, record-deep at (read .code-depth .ensures))
 
 add-offset : tie.Need-add-offset Inv-loop μ-loop
-add-offset c = let test : tie.In-loop Inv-loop μ-loop = search in let read : tie.After-code-depth Inv-loop μ-loop = search in omega (arith, record-fits (judging-at (test .before .loop .inv) (test .loop-test .taken)) (read .code-depth .ensures) (c .record-length .ensures))
+add-offset c =
+    let test : tie.In-loop Inv-loop μ-loop = search in
+    let read : tie.After-code-depth Inv-loop μ-loop = search in
+    omega (arith, record-fits (judging-at (test .before .loop .inv) (test .loop-test .taken)) (read .code-depth .ensures) (c .record-length .ensures))
 
 pub all-hold-spec : {M : Type 1} → statement M
 all-hold-spec =

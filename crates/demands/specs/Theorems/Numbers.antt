@@ -31,7 +31,6 @@ numbered (need false number ∷ tests) a = a .0
 numbered (own zero ∷ tests) a = numbered tests (a .1)
 numbered (own (suc number) ∷ tests) a = a .0
 
-
 head-in : (bs : List ℕ) → headRefusal bs ≤ 15
 unfolding headRefusal Numbered
 head-in bs = numbered _ (omega arith, (omega arith, tt))

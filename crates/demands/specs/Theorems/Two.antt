@@ -18,6 +18,7 @@ use Rattle.bisection.specs.Refusals.{done, isPath}
 use Rattle.bisection.specs.Facets.{IsCell}
 use Rattle.bisection.specs.Theorems.Ladders.{held-at}
 use Rattle.bisection.specs.Theorems.Checked.{each-at}
+use Rattle.bisection.specs.Theorems.Geometry.{closed-form}
 use Rattle.bisection.specs.Theorems.CodePaths.{one-path}
 use Rattle.bisection.specs.Theorems.CodeCells.{one-cell, same-code}
 use Rattle.codes.specs.declared.Written.{Written}
@@ -27,7 +28,7 @@ use Rattle.codes.specs.PathAnswers.{good-root}
 use Rattle.codes.specs.Bisects.{child-bisects, parent-bisects}
 use Rattle.sheets.specs.Forests.{TreeCell}
 use Rattle.sheets.specs.declared.SheetAnswer.{SheetAnswer}
-use Rattle.sheets.specs.Sheets.{SheetIs, good, record-refused, not-next, ended-early, Good, told, sheet-refused, sheet-good}
+use Rattle.sheets.specs.Sheets.{SheetIs, good, record-refused, not-next, ended-early, Good, told, leafIn, sheet-refused, sheet-good}
 use Rattle.sheets.specs.Theorems.Determined.{sheet-determined}
 use Rattle.sheets.specs.Theorems.Good.{same-cells}
 use Rattle.queries.specs.declared.LeafAnswer.{LeafAnswer}
@@ -105,7 +106,7 @@ good-yes sheet r s n g = let q = sheet-determined sheet r (told done 0 n) s (goo
 
 -- a weight for each vertex, two bytes each
 size : {sheet : List ℕ} {n : ℕ} (g : Good sheet n) {p : Point} {i : ℕ} {ws : List ℕ} → LeafAt (g .cells) p i → LeafWeights (g .cells) i p ws → length (pointBytes ws) ≡ weightsLength (g .dimension)
-size g {p} {i} {ws} a w = let c = leaf-good g i (a .number) in bytes-length ws ∙ ap (λ (m : ℕ). 2 * m) (w .count ∙ cell-count (c .0 .good-root) (c .0 .good-path) ∙ ap suc (c .1))
+size g {p} {i} {ws} a w = let c = leaf-good g i (a .number) in bytes-length ws ∙ ap (λ (m : ℕ). 2 * m) (w .count ∙ closed-form (leafIn (g .cells) i .root) (leafIn (g .cells) i .path) (c .0 .good-root) (c .0 .good-path .depth) .sized .size ∙ ap suc (c .1))
 
 leaf-there : (sheet point before : List ℕ) (r : LeafAnswer) (after : List ℕ) → LeafIs sheet point before r after → r .refusal ≡ done → LeafThere sheet point (r .number) (take (r .length) after)
 leaf-there sheet point before r after q e = go q
