@@ -9,6 +9,8 @@ pub mod Determined
 pub mod One
 pub mod Two
 pub mod Three
+-- Programs that do nothing, and that none meets its contract.
+pub mod Idle
 pub mod Theorems
 -- How a row is shown, and document 01's sheet.
 pub mod Shown

@@ -3,3 +3,5 @@ pub mod Numbers
 pub mod One
 pub mod Two
 pub mod Three
+pub mod Cracked
+pub mod Idle
