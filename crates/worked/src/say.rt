@@ -1,0 +1,59 @@
+// What the program writes, part by part, to standard output.
+ghost use mathlib.Core.Path.{_≡_};
+ghost use Prim.Native.Nat.{_<_};
+use libc::STDOUT_FILENO;
+
+fn wide(b: u8) -> u64
+    ensures { λ r. ⌜ (r ≡ b) × (r < 256) ⌝ }
+{
+    b as u64
+}
+
+pub fn text(bytes: &[u8]) {
+    io::write_all(STDOUT_FILENO, bytes);
+}
+
+pub fn number(n: usize) {
+    io::print_decimal(STDOUT_FILENO, n as u64);
+}
+
+// Bytes in hex, each with so many digits or more: two for a code, one for the axes of a root and the steps of a path.
+pub fn hex(bytes: &[u8], digits: usize) {
+    for i in 0..bytes.len() {
+        io::print_hex(STDOUT_FILENO, wide(bytes[i]), digits);
+    }
+}
+
+fn pair(low: u8, high: u8) -> u64 {
+    wide(low) + 256 * wide(high)
+}
+
+// Numbers of two bytes each, the low byte first.
+pub fn pairs(bytes: &[u8]) {
+    for n in 0..bytes.len() / 2 {
+        text(b" ");
+        io::print_decimal(STDOUT_FILENO, pair(bytes[2 * n], bytes[2 * n + 1]));
+    }
+}
+
+// The end of a line: a code.
+pub fn line(code: &[u8]) {
+    hex(code, 2);
+    text(b"\n");
+}
+
+// The end of a line: a refusal.
+pub fn refused(refusal: u8) {
+    text(b"refused ");
+    number(common::size(refusal));
+    text(b"\n");
+}
+
+// The same with the offset at which it was found.
+pub fn refused_at(refusal: u8, offset: usize) {
+    text(b"refused ");
+    number(common::size(refusal));
+    text(b" at ");
+    number(offset);
+    text(b"\n");
+}
