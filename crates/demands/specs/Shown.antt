@@ -174,11 +174,13 @@ row (listing sheet text) a = λ before. record { text = text; listing = a; lengt
 row (leaf-at sheet point number weights) a = leaf-row a
 row (value-at sheet point value) a = value-row a
 
-unfoldable pub EveryShown : List Row → Type 0
-EveryShown [] = Unit {0}
-EveryShown (r ∷ rows) = Shown r × EveryShown rows
+-- row by row
+infixr 5 _and_
+pub data EveryShown : List Row → Type 0 where
+  no-more : EveryShown []
+  _and_ : {r : Row} {rows : List Row} → Shown r → EveryShown rows → EveryShown (r ∷ rows)
 
 pub every : (rows : List Row) → EveryShown rows → Every rows
-unfolding EveryShown Every
-every [] a = tt
-every (r ∷ rows) a = (row r (a .0), every rows (a .1))
+unfolding Every
+every [] no-more = tt
+every (r ∷ rows) (a and rest) = (row r a, every rows rest)

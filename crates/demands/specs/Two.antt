@@ -31,24 +31,14 @@ pub record OneCode (vs : Cell) : Type 0 where
   pub its : IsCell code vs
   pub only : (code' : List ℕ) → IsCell code' vs → code' ≡ code
 
--- the first leaf of the sheet whose closed cell contains the point, with its weights of sum s, as bytes
-pub record LeafThere (sheet point : List ℕ) (number : ℕ) (bytes : List ℕ) : Type 0 where
-  pub count : ℕ
-  pub good : Good sheet count
-  pub leaf : LeafAt (good .cells) (pointOf point) number
-  pub weights : List ℕ
-  pub weighs : LeafWeights (good .cells) number (pointOf point) weights
-  pub bytes-are : bytes ≡ pointBytes weights
-
--- its weights times its samples, divided by s
-pub record ValueThere (sheet point : List ℕ) (x : Float) : Type 0 where
+-- a sheet's leaf at a point: the first whose closed cell contains it, with its weights of sum s
+pub record There (sheet point : List ℕ) : Type 0 where
   pub count : ℕ
   pub good : Good sheet count
   pub number : ℕ
   pub leaf : LeafAt (good .cells) (pointOf point) number
   pub weights : List ℕ
   pub weighs : LeafWeights (good .cells) number (pointOf point) weights
-  pub is : Fraction x (greySum sampleWidth weights (samplesOf (good .records) number)) (sideIn (good .cells) number)
 
 pub record Demand2 : Type 0 where
   -- what the one writes, given to the other, comes back
@@ -69,7 +59,9 @@ pub record Demand2 : Type 0 where
   pub yes-good : (sheet : List ℕ) (r : SheetAnswer) → SheetIs sheet r → r .refusal ≡ done → Good sheet (r .records)
   pub good-yes : (sheet : List ℕ) (r : SheetAnswer) → SheetIs sheet r → (n : ℕ) → Good sheet n → (r .refusal ≡ done) × (r .records ≡ n)
   -- the point queries' answers are those of the cells
-  pub leaf-at : (sheet point before : List ℕ) (r : LeafAnswer) (after : List ℕ) → LeafIs sheet point before r after → r .refusal ≡ done → LeafThere sheet point (r .number) (take (r .length) after)
-  pub value-at : (sheet point : List ℕ) (x : Float) → ValueIs sheet point (Grey x) → ValueThere sheet point x
+  pub leaf-at : (sheet point before : List ℕ) (r : LeafAnswer) (after : List ℕ) → LeafIs sheet point before r after → r .refusal ≡ done
+      → (t : There sheet point) × (r .number ≡ t .number) × (take (r .length) after ≡ pointBytes (t .weights))
+  pub value-at : (sheet point : List ℕ) (x : Float) → ValueIs sheet point (Grey x)
+      → (t : There sheet point) × Fraction x (greySum sampleWidth (t .weights) (samplesOf (t .good .records) (t .number))) (sideIn (t .good .cells) (t .number))
   -- a sheet is said to be compatible exactly where it is
   pub compatible : (sheet : List ℕ) (r : CompatibleAnswer) → CompatibleIs sheet r → (n : ℕ) (g : Good sheet n) → (r .compatible ≡ 1 → Compatible (g .cells)) × (Compatible (g .cells) → r .compatible ≡ 1)

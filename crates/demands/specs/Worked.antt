@@ -21,7 +21,7 @@ use Rattle.points.specs.Points.{pointOf, isPoint}
 use Rattle.greys.specs.Samples.{greySum, sampleAt, lowFirst}
 use Rattle.sheets.specs.Sheets.{samplesOf}
 use Rattle.demands.specs.PointTen.{weightsTen, ten-weighs, ten-leaf}
-use Rattle.demands.specs.Shown.{LeafShown, Shown, EveryShown, every}
+use Rattle.demands.specs.Shown.{LeafShown, Shown, _and_, no-more, every}
 
 unfoldable pub table : List Row
 table =
@@ -71,76 +71,38 @@ ten = record { count = 2; good-sheet = two-leaves; passes = refl; leaf = ten-lea
 
 -- the claim
 pub worked : Every table
-unfolding EveryShown Shown table codeOf bytes nameOf nameBelow step stepped turned negated minus axis orthant orthantTo minusOn high level splitPlace
+unfolding Shown table codeOf bytes nameOf nameBelow step stepped turned negated minus axis orthant orthantTo minusOn high level splitPlace
     boxDepth codeLength cellOf cellBelow rootCell corners moved child midpoint cubeSide halvings greatestDepth isDimension childCode codeRefusal headRefusal
     lengthOf bodyRefusal firstRefusal each fresh permutes orthantsFit ownMinus signsOwn dimensionOf depthOf entriesOf orthantsOf partsOf isRoot isPath pointBytes
     cellBytes pointsLength rootOf pathOf rootTo pathTo parentName lastStep unturned unstepped fewer move newAt exchanged negatedAt entriesBy flipped runsOut carried
     orthantsBy blockedBy nextOwn moveOf blocked acrossName newPlace digit spelled decimal hex numberLine leafLine leafLines goodText refusedText two-leaves
     ten greySum sampleAt lowFirst sumTo samplesOf boxSide sideAfter
 worked = every table (
-  record { dimension = refl; depth = refl; good = refl; steps = refl; is = refl },
-  (
-    record { passes = refl; is = refl; size = refl },
-    (
-      record { dimension = refl; depth = refl; good = refl; steps = refl; is = refl },
-      (
-        record { passes = refl; is = refl; size = refl },
-        (
-          record { dimension = refl; depth = refl; good = refl; steps = refl; is = refl },
-          (
-            record { passes = refl; is = refl; size = refl },
-            (
-              record { dimension = refl; depth = refl; good = refl; steps = refl; is = refl },
-              (
-                record { passes = refl; is = refl; size = refl },
-                (
-                  record { dimension = refl; depth = refl; good = refl; steps = refl; is = refl },
-                  (
-                    record { passes = refl; facet = refl; free = refl; is = refl; at = refl },
-                    (
-                      record { passes = refl; facet = refl; blocked = refl },
-                      (
-                        record { passes = refl; facet = refl; blocked = refl },
-                        (
-                          record { passes = refl; facet = refl; free = refl; is = refl; at = refl },
-                          (
-                            record { passes = refl; facet = refl; free = refl; is = refl; at = refl },
-                            (
-                              record { passes = refl; facet = refl; free = refl; is = refl; at = refl },
-                              (
-                                record { passes = refl; facet = refl; free = refl; is = refl; at = refl },
-                                (
-                                  record { passes = refl; facet = refl; blocked = refl },
-                                  (
-                                    refl,
-                                    (
-                                      refl,
-                                      (
-                                        refl,
-                                        (
-                                          record { passes = refl; step = refl; deeper = refl; is = refl },
-                                          (
-                                            two-leaves,
-                                            (good-listing (omega arith) two-leaves, (ten, (record { number = 0; weights = weightsTen; leaf-shown = ten; small = omega arith; sum = refl }, (one-leaf-listed, (too-large-listed, tt))))),
-                                          ),
-                                        ),
-                                      ),
-                                    ),
-                                  ),
-                                ),
-                              ),
-                            ),
-                          ),
-                        ),
-                      ),
-                    ),
-                  ),
-                ),
-              ),
-            ),
-          ),
-        ),
-      ),
-    ),
-  ),
-)
+    record { dimension = refl; depth = refl; good = refl; steps = refl; is = refl }
+    and record { passes = refl; is = refl; size = refl }
+    and record { dimension = refl; depth = refl; good = refl; steps = refl; is = refl }
+    and record { passes = refl; is = refl; size = refl }
+    and record { dimension = refl; depth = refl; good = refl; steps = refl; is = refl }
+    and record { passes = refl; is = refl; size = refl }
+    and record { dimension = refl; depth = refl; good = refl; steps = refl; is = refl }
+    and record { passes = refl; is = refl; size = refl }
+    and record { dimension = refl; depth = refl; good = refl; steps = refl; is = refl }
+    and record { passes = refl; facet = refl; free = refl; is = refl; at = refl }
+    and record { passes = refl; facet = refl; blocked = refl }
+    and record { passes = refl; facet = refl; blocked = refl }
+    and record { passes = refl; facet = refl; free = refl; is = refl; at = refl }
+    and record { passes = refl; facet = refl; free = refl; is = refl; at = refl }
+    and record { passes = refl; facet = refl; free = refl; is = refl; at = refl }
+    and record { passes = refl; facet = refl; free = refl; is = refl; at = refl }
+    and record { passes = refl; facet = refl; blocked = refl }
+    and refl
+    and refl
+    and refl
+    and record { passes = refl; step = refl; deeper = refl; is = refl }
+    and two-leaves
+    and good-listing (omega arith) two-leaves
+    and ten
+    and record { number = 0; weights = weightsTen; leaf-shown = ten; small = omega arith; sum = refl }
+    and one-leaf-listed
+    and too-large-listed
+    and no-more)

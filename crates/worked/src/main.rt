@@ -72,7 +72,11 @@ fn other_slips() {
     ask::crossed(b"slip 4, low place", b"\x02\x04\x01\x82\x01\x02", 0);
     ask::crossed(b"slip 4, low place", b"\x02\x04\x01\x82\x01\x02", 2);
     ask::crossed(b"slip 5, last box", b"\x02\x06\x02\x01\x01\0\0", 2);
-    ask::crossed(b"slip 5, last box", b"\x02\x18\x02\x01\x01\0\0\0\0\0\0\0\0\0\0\0", 2);
+    ask::crossed(
+        b"slip 5, last box",
+        b"\x02\x18\x02\x01\x01\0\0\0\0\0\0\0\0\0\0\0",
+        2,
+    );
 }
 
 fn main() {

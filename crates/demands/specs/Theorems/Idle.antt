@@ -23,7 +23,7 @@ use Rattle.sheets.specs.Sheets.{SheetIs, Good}
 use Rattle.compatible.specs.declared.CompatibleAnswer.{CompatibleAnswer}
 use Rattle.compatible.specs.Compatible.{CompatibleIs}
 use Rattle.demands.specs.Rows.{path-to-code, cross, Answered, Holds, Every}
-use Rattle.demands.specs.Shown.{Shown, EveryShown, every}
+use Rattle.demands.specs.Shown.{Shown, _and_, no-more, every}
 use Rattle.demands.specs.TwoLeaves.{twoLeaves, two-leaves}
 use Rattle.demands.specs.Theorems.Two.{demand-2}
 use Rattle.demands.specs.Theorems.Cracked.{fiveLeaves, five-leaves, two-compatible, five-incompatible}
@@ -40,16 +40,15 @@ abbrev deeper : List ℕ
 deeper = 0x02 ∷ 0x02 ∷ 0x81 ∷ 0x02 ∷ 0x01 ∷ []
 
 shown : Every (path-to-code (1 ∷ 2 ∷ []) [] first ∷ path-to-code (2 ∷ 1 ∷ []) [] second ∷ path-to-code (1 ∷ 2 ∷ []) (0 ∷ 1 ∷ []) deeper ∷ cross first 1 second 1 ∷ [])
-unfolding EveryShown Shown codeOf bytes nameOf nameBelow step stepped turned negated minus axis orthant orthantTo minusOn high level splitPlace boxDepth codeLength halvings
+unfolding Shown codeOf bytes nameOf nameBelow step stepped turned negated minus axis orthant orthantTo minusOn high level splitPlace boxDepth codeLength halvings
     greatestDepth isDimension codeRefusal headRefusal lengthOf bodyRefusal firstRefusal each fresh permutes orthantsFit ownMinus signsOwn dimensionOf depthOf entriesOf
     orthantsOf partsOf isRoot isPath move newAt exchanged negatedAt entriesBy flipped runsOut carried orthantsBy blockedBy nextOwn moveOf blocked acrossName newPlace
 shown = every _ (
-  record { dimension = refl; depth = refl; good = refl; steps = refl; is = refl },
-  (
-    record { dimension = refl; depth = refl; good = refl; steps = refl; is = refl },
-    (record { dimension = refl; depth = refl; good = refl; steps = refl; is = refl }, (record { passes = refl; facet = refl; free = refl; is = refl; at = refl }, tt)),
-  ),
-)
+    record { dimension = refl; depth = refl; good = refl; steps = refl; is = refl }
+    and record { dimension = refl; depth = refl; good = refl; steps = refl; is = refl }
+    and record { dimension = refl; depth = refl; good = refl; steps = refl; is = refl }
+    and record { passes = refl; facet = refl; free = refl; is = refl; at = refl }
+    and no-more)
 
 first-code : Answered (PathToCode (1 ∷ 2 ∷ []) []) first
 unfolding Every Holds

@@ -28,18 +28,20 @@ use Rattle.codes.specs.PathAnswers.{good-root}
 use Rattle.codes.specs.Bisects.{child-bisects, parent-bisects}
 use Rattle.sheets.specs.Forests.{TreeCell}
 use Rattle.sheets.specs.declared.SheetAnswer.{SheetAnswer}
-use Rattle.sheets.specs.Sheets.{SheetIs, good, record-refused, not-next, ended-early, Good, told, leafIn, sheet-refused, sheet-good}
+use Rattle.sheets.specs.Sheets.{SheetIs, good, record-refused, not-next, ended-early, Good, told, leafIn, sampleWidth, samplesOf, sheet-refused, sheet-good}
 use Rattle.sheets.specs.Theorems.Determined.{sheet-determined}
 use Rattle.sheets.specs.Theorems.Good.{same-cells}
 use Rattle.queries.specs.declared.LeafAnswer.{LeafAnswer}
 use Rattle.queries.specs.Writing.{bytes-length}
 use Rattle.finding.specs.Walk.{leaf-good}
-use Rattle.queries.specs.Queries.{LeafIs, LeafAt, LeafWeights, LeafOn, leaf-refused, leaf-found, leafTold, weightsLength, ValueIs, ValueOn, value-refused, value-found}
+use Rattle.queries.specs.Queries.{LeafIs, LeafAt, LeafWeights, LeafOn, leaf-refused, leaf-found, leafTold, weightsLength, sideIn, ValueIs, ValueOn, value-refused, value-found}
+use Rattle.greys.specs.Fractions.{Fraction}
+use Rattle.greys.specs.Samples.{greySum}
 use Rattle.greys.specs.declared.Value.{Value}
 use Rattle.greys.specs.declared.Value.the-variants.{Grey, Refused}
 use Rattle.compatible.specs.declared.CompatibleAnswer.{CompatibleAnswer}
 use Rattle.compatible.specs.Compatible.{CompatibleIs, Compatible, Judges, yes-all, not-all}
-use Rattle.demands.specs.Two.{OneCode, LeafThere, ValueThere, Demand2}
+use Rattle.demands.specs.Two.{OneCode, There, Demand2}
 
 -- what an entry that is done has written, at the front of the buffer
 front : {refusal : ℕ} {answer before : List ℕ} {r : Written} {after : List ℕ} → Writes refusal answer before r after → r .refusal ≡ done → take (r .length) after ≡ answer
@@ -108,15 +110,19 @@ good-yes sheet r s n g = let q = sheet-determined sheet r (told done 0 n) s (goo
 size : {sheet : List ℕ} {n : ℕ} (g : Good sheet n) {p : Point} {i : ℕ} {ws : List ℕ} → LeafAt (g .cells) p i → LeafWeights (g .cells) i p ws → length (pointBytes ws) ≡ weightsLength (g .dimension)
 size g {p} {i} {ws} a w = let c = leaf-good g i (a .number) in bytes-length ws ∙ ap (λ (m : ℕ). 2 * m) (w .count ∙ closed-form (leafIn (g .cells) i .root) (leafIn (g .cells) i .path) (c .0 .good-root) (c .0 .good-path .depth) .sized .size ∙ ap suc (c .1))
 
-leaf-there : (sheet point before : List ℕ) (r : LeafAnswer) (after : List ℕ) → LeafIs sheet point before r after → r .refusal ≡ done → LeafThere sheet point (r .number) (take (r .length) after)
+leaf-there : (sheet point before : List ℕ) (r : LeafAnswer) (after : List ℕ) → LeafIs sheet point before r after → r .refusal ≡ done
+    → (t : There sheet point) × (r .number ≡ t .number) × (take (r .length) after ≡ pointBytes (t .weights))
 leaf-there sheet point before r after q e = go q
   where
-    on : {n : ℕ} (g : Good sheet n) → LeafOn g point before r after → LeafThere sheet point (r .number) (take (r .length) after)
+    on : {n : ℕ} (g : Good sheet n) → LeafOn g point before r after → (t : There sheet point) × (r .number ≡ t .number) × (take (r .length) after ≡ pointBytes (t .weights))
     on g (leaf-refused h t b) = absurd (h (sym (ap (λ (r : LeafAnswer). r .refusal) t) ∙ e))
-    on {n} g (leaf-found {i = i} {ws = ws} h a w t b) = subst (λ (m : ℕ). LeafThere sheet point m (take (r .length) after)) (sym (ap (λ (r : LeafAnswer). r .number) t))
-        (record { count = n; good = g; leaf = a; weights = ws; weighs = w; bytes-are = ap (take (r .length)) b ∙ take-at (pointBytes ws) (drop (weightsLength (g .dimension)) before) (r .length) (size g a w ∙ sym (ap (λ (r : LeafAnswer). r .length) t)) })
+    on {n} g (leaf-found {i = i} {ws = ws} h a w t b) = (
+      record { count = n; good = g; number = i; leaf = a; weights = ws; weighs = w },
+      ap (λ (r : LeafAnswer). r .number) t,
+      ap (take (r .length)) b ∙ take-at (pointBytes ws) (drop (weightsLength (g .dimension)) before) (r .length) (size g a w ∙ sym (ap (λ (r : LeafAnswer). r .length) t)),
+    )
 
-    go : LeafIs sheet point before r after → LeafThere sheet point (r .number) (take (r .length) after)
+    go : LeafIs sheet point before r after → (t : There sheet point) × (r .number ≡ t .number) × (take (r .length) after ≡ pointBytes (t .weights))
     go (sheet-refused {a = a} s k x) = absurd (k (sym (ap (λ (r : LeafAnswer). r .refusal) (x .0)) ∙ e))
     go (sheet-good g x) = on g x
 
@@ -128,14 +134,19 @@ abbrev greyOf : Float → Value → Float
 greyOf z (Grey y) = y
 greyOf z (Refused n o) = z
 
-value-there : (sheet point : List ℕ) (x : Float) → ValueIs sheet point (Grey x) → ValueThere sheet point x
+-- the value of a leaf there
+Valued : List ℕ → List ℕ → Float → Type 0
+Valued sheet point x = (t : There sheet point) × Fraction x (greySum sampleWidth (t .weights) (samplesOf (t .good .records) (t .number))) (sideIn (t .good .cells) (t .number))
+
+value-there : (sheet point : List ℕ) (x : Float) → ValueIs sheet point (Grey x) → (t : There sheet point) × Fraction x (greySum sampleWidth (t .weights) (samplesOf (t .good .records) (t .number))) (sideIn (t .good .cells) (t .number))
+unfolding Valued
 value-there sheet point x q = go q
   where
-    on : {n : ℕ} (g : Good sheet n) → ValueOn g point (Grey x) → ValueThere sheet point x
+    on : {n : ℕ} (g : Good sheet n) → ValueOn g point (Grey x) → Valued sheet point x
     on g (value-refused h t) = absurd (subst isGrey t tt)
-    on {n} g (value-found {i = i} {ws = ws} {x = y} h a w f t) = subst (ValueThere sheet point) (sym (ap (greyOf x) t)) (record { count = n; good = g; number = i; leaf = a; weights = ws; weighs = w; is = f })
+    on {n} g (value-found {i = i} {ws = ws} {x = y} h a w f t) = subst (Valued sheet point) (sym (ap (greyOf x) t)) (record { count = n; good = g; number = i; leaf = a; weights = ws; weighs = w }, f)
 
-    go : ValueIs sheet point (Grey x) → ValueThere sheet point x
+    go : ValueIs sheet point (Grey x) → Valued sheet point x
     go (sheet-refused s k t) = absurd (subst isGrey t tt)
     go (sheet-good g t) = on g t
 
