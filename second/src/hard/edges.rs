@@ -42,7 +42,6 @@ pub struct Guarded {
 
 impl Guarded {
     pub fn new() -> Guarded {
-        pages::tell_faults();
         let inputs = [Pages::of_input(), Pages::of_input()];
         Guarded { inputs, outputs: [Pages::of_output(), Pages::of_output()] }
     }
@@ -126,7 +125,7 @@ impl<P: Places> Edges<'_, P> {
     }
 
     /// One call, from both edges.
-    fn both(&mut self, given: &Given, lent: [usize; 2]) {
+    pub fn both(&mut self, given: &Given, lent: [usize; 2]) {
         if self.part > 1 && !self.random.once_in(self.part) {
             return;
         }

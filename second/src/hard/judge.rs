@@ -1,7 +1,7 @@
 //! The second program behind the same form of call, and what the contracts say of any answer.
 
 use crate::calls::{Answer, Entry, Given};
-use second::answers::CompatibleAnswer;
+use second::answers::{CompatibleAnswer, SheetAnswer};
 use second::compatible::compatible;
 use second::entries::{self, Reading};
 use second::finder::Finder;
@@ -33,6 +33,7 @@ pub struct Judge {
     sheets: Sheets<'static>,
     read: usize,
     code: Kept<Reading>,
+    checked: Kept<SheetAnswer>,
     asked: Kept<Asked>,
     compatible: Kept<CompatibleAnswer>,
 }
@@ -46,6 +47,7 @@ impl Judge {
             sheets: Sheets::new(finder),
             read: 0,
             code: Kept::new(),
+            checked: Kept::new(),
             asked: Kept::new(),
             compatible: Kept::new(),
         }
@@ -77,7 +79,7 @@ impl Judge {
         }
         let (sheets, sheet) = (&self.sheets, given.one);
         match given.entry {
-            Entry::SheetCheck => sheets.check(sheet).into(),
+            Entry::SheetCheck => (*self.checked.of(sheet, || sheets.check(sheet))).into(),
             Entry::Compatible => {
                 (*self.compatible.of(sheet, || compatible(sheets, sheet))).into()
             }

@@ -6,6 +6,7 @@ mod edges;
 mod judge;
 mod pages;
 mod seeds;
+mod shapes;
 mod threads;
 mod turn;
 
@@ -103,7 +104,10 @@ fn main() {
     };
     let begun = Instant::now();
     match options.part.as_str() {
-        "edges" => edges(&options, Guarded::new(), 1, LONGEST, "edges"),
+        "edges" => {
+            pages::tell_faults();
+            edges(&options, Guarded::new(), 1, LONGEST, "edges");
+        }
         "heap" => edges(&options, Heap, HEAP_PART, LONGEST_HEAP, "heap"),
         "calls" => turn(&options),
         "threads" => threads(&options),
