@@ -4,9 +4,9 @@
 use crate::calls::{library, told, Answer, Entry, Given, ENTRIES};
 use crate::judge::{keeps_contract, Judge};
 use crate::pages::{self, Edge, Pages};
-use second::forests::{self, damaged, deepest_sheet, good_sheet};
+use crate::sheets::{some_sheet, KINDS};
+use second::forests::damaged;
 use second::inputs::{self, any_path, any_root};
-use second::mending::Forest;
 use second::random::Random;
 use second::{points, sizes::*};
 
@@ -104,7 +104,11 @@ impl Places for Heap {
 
 /// Which of all cells are lent.
 fn lent_cells(lent: usize, edge: Edge) -> std::ops::Range<usize> {
-    if edge == Edge::Begin { 0..lent } else { CELLS - lent..CELLS }
+    if edge == Edge::Begin {
+        0..lent
+    } else {
+        CELLS - lent..CELLS
+    }
 }
 
 pub struct Edges<'a, P: Places> {
@@ -236,7 +240,7 @@ impl<P: Places> Edges<'_, P> {
 
     fn some_sheets(&mut self, longest: usize) {
         for d in DIMENSIONS {
-            for kind in 0..4 {
+            for kind in 0..KINDS {
                 let sheet = some_sheet(&mut self.random, d, kind);
                 self.sheets(d, &sheet[..sheet.len().min(longest)]);
             }
@@ -248,24 +252,6 @@ impl<P: Places> Edges<'_, P> {
         self.codes();
         self.paths();
         self.some_sheets(longest);
-    }
-}
-
-/// A good sheet of a few records, deep or shallow, compatible or not.
-pub fn some_sheet(random: &mut Random, d: usize, kind: usize) -> Vec<u8> {
-    match kind {
-        0 => Forest::uniform(d, 0).sheet(random),
-        1 => {
-            let mut forest = Forest::uniform(d, 0);
-            let cell = forests::random_cell(random, d, d + 1);
-            forest.mended_to(&cell, d + 1);
-            forest.sheet(random)
-        }
-        2 => forests::bytes(&deepest_sheet(random, d, 0)),
-        _ => {
-            let depth = random.below(greatest_depth(d) + 1);
-            forests::bytes(&good_sheet(random, d, depth))
-        }
     }
 }
 

@@ -7,6 +7,7 @@ mod edges;
 mod judge;
 mod pages;
 mod shapes;
+mod sheets;
 
 use calls::{c_entries, told, Answer, Entry, Given, ENTRIES};
 use edges::{Edges, Guarded};
@@ -41,7 +42,11 @@ impl Fuzzed {
         let [expected, got] = &mut cells;
         let answer = self.edges.judge.answer(given, expected, &mut []);
         let other = plain(given, got, &mut []);
-        assert!(answer == other && expected == got, "plain C differs on {}", told(given, [lent, 0]));
+        assert!(
+            answer == other && expected == got,
+            "plain C differs on {}",
+            told(given, [lent, 0])
+        );
     }
 }
 

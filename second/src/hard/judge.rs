@@ -80,9 +80,7 @@ impl Judge {
         let (sheets, sheet) = (&self.sheets, given.one);
         match given.entry {
             Entry::SheetCheck => (*self.checked.of(sheet, || sheets.check(sheet))).into(),
-            Entry::Compatible => {
-                (*self.compatible.of(sheet, || compatible(sheets, sheet))).into()
-            }
+            Entry::Compatible => (*self.compatible.of(sheet, || compatible(sheets, sheet))).into(),
             entry => {
                 let found = self.asked.of(sheet, || Asked::new(sheets, sheet)).find(given.two);
                 match entry {

@@ -7,6 +7,7 @@ mod judge;
 mod pages;
 mod seeds;
 mod shapes;
+mod sheets;
 mod threads;
 mod turn;
 
@@ -35,8 +36,7 @@ struct Options {
 fn options() -> Option<Options> {
     let mut words = std::env::args().skip(1);
     let part = words.next()?;
-    let mut options =
-        Options { part, seed: 1, rounds: 1, calls: 1_000_000, folder: String::new() };
+    let mut options = Options { part, seed: 1, rounds: 1, calls: 1_000_000, folder: String::new() };
     while let Some(word) = words.next() {
         let value = words.next()?;
         match word.as_str() {
@@ -83,13 +83,18 @@ fn turn(options: &Options) {
     let left = options.calls.saturating_sub(turn.made);
     turn.codes(left);
     let (all, judged) = (grouped(turn.made), grouped(turn.judged));
-    println!("calls: {all}, none differs; {judged} judged by the second program; {}", rows(&turn.counts));
+    println!(
+        "calls: {all}, none differs; {judged} judged by the second program; {}",
+        rows(&turn.counts)
+    );
 }
 
 fn threads(options: &Options) {
     let mut random = Random::new(options.seed);
     match threads::run(&mut random, 1100, options.rounds as usize) {
-        Ok(calls) => println!("threads: {} calls from four at once, as from one", grouped(calls as u64)),
+        Ok(calls) => {
+            println!("threads: {} calls from four at once, as from one", grouped(calls as u64))
+        }
         Err(why) => {
             println!("threads: {why}");
             std::process::exit(1);

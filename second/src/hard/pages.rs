@@ -6,8 +6,14 @@ use std::ffi::{c_char, c_int, c_long, c_void};
 use std::ptr;
 
 extern "C" {
-    fn mmap(at: *mut c_void, n: usize, prot: c_int, flags: c_int, fd: c_int, from: c_long)
-        -> *mut c_void;
+    fn mmap(
+        at: *mut c_void,
+        n: usize,
+        prot: c_int,
+        flags: c_int,
+        fd: c_int,
+        from: c_long,
+    ) -> *mut c_void;
     fn memfd_create(name: *const c_char, flags: u32) -> c_int;
     fn ftruncate(fd: c_int, n: c_long) -> c_int;
     fn sysconf(name: c_int) -> c_long;
@@ -72,7 +78,11 @@ impl Pages {
 
     fn start(&self, length: usize, edge: Edge) -> usize {
         assert!(length <= self.room, "too long to be placed");
-        if edge == Edge::Begin { 0 } else { self.room - length }
+        if edge == Edge::Begin {
+            0
+        } else {
+            self.room - length
+        }
     }
 
     /// The bytes, placed.

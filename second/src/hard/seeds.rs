@@ -1,8 +1,9 @@
 //! Seeds for the fuzzers: good sheets and codes, and choices that make some, in the form that is read.
 
 use crate::calls::Entry;
-use crate::edges::{some_sheet, OUTPUT};
+use crate::edges::OUTPUT;
 use crate::shapes::{made_seed, seed, shape};
+use crate::sheets::some_sheet;
 use second::random::Random;
 use second::{inputs, points, sizes::*};
 use std::fs;

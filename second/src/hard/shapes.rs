@@ -79,7 +79,11 @@ fn made_code(choices: &[u8]) -> Vec<u8> {
 }
 
 fn sheet_of(form: u8, bytes: &[u8]) -> Vec<u8> {
-    if form & MADE == 0 { bytes.to_vec() } else { made_sheet(bytes) }
+    if form & MADE == 0 {
+        bytes.to_vec()
+    } else {
+        made_sheet(bytes)
+    }
 }
 
 /// Coordinates as they stand; or as many as the sheet's dimension asks for, each in the cube.

@@ -1,7 +1,7 @@
 //! Every entry from several threads at once, on inputs that they share and outputs of their own.
 
 use crate::calls::{library, Answer, Entry, Given, ENTRIES};
-use crate::edges::some_sheet;
+use crate::sheets::some_sheet;
 use second::inputs;
 use second::points;
 use second::random::Random;

@@ -3,12 +3,11 @@
 //! One call in so many is judged by the second program too.
 
 use crate::calls::{library, told, Answer, Entry, Given, ENTRIES};
-use crate::edges::some_sheet;
 use crate::judge::{keeps_contract, Judge};
+use crate::sheets::{self, some_sheet, KINDS};
 use second::forests::damaged;
 use second::inputs;
 use second::random::Random;
-use second::sheets::MARK;
 use second::{points, sizes::*};
 
 const ROOM: usize = 64;
@@ -18,7 +17,11 @@ const LONGEST_CODE: usize = 18;
 const PART: u64 = 997;
 const PART_SHEETS: u64 = 97;
 
-/// Rounds after which the walk from cell to cell begins elsewhere, and calls of a round of each kind, about.
+/// Sheets at hand, and rounds after which one of them gives way to a new one.
+const SHEETS: usize = 96;
+const RENEWED: u64 = 64;
+
+/// Rounds after which the walk from cell to cell begins elsewhere.
 const WALK: u64 = 64;
 
 /// Codes and outputs in fixed rooms, so that they are moved at no cost.
@@ -63,8 +66,8 @@ fn of_code(entry: Entry, code: &[u8], which: u8) -> Given<'_> {
 
 impl<'a> Turn<'a> {
     pub fn new(judge: &'a mut Judge, mut random: Random) -> Turn<'a> {
-        let sheet = |n: usize| (2 + n % 3, some_sheet(&mut random, 2 + n % 3, n / 3 % 4));
-        let sheets = (0..96).map(sheet).collect();
+        let sheet = |n: usize| (2 + n % 3, some_sheet(&mut random, 2 + n % 3, n / 3 % KINDS));
+        let sheets = (0..SHEETS).map(sheet).collect();
         let (out, other) = ([0; ROOM], [0; ROOM]);
         let (counts, depths) = ([0; ENTRIES.len()], every_depth());
         Turn { judge, random, out, other, sheets, depths, counts, made: 0, judged: 0 }
@@ -76,8 +79,7 @@ impl<'a> Turn<'a> {
         self.counts[given.entry as usize] += 1;
         let fill = self.made as u8;
         (self.out, self.other) = ([fill; ROOM], [!fill; ROOM]);
-        let answer =
-            library(given, &mut self.out[..lent[0]], &mut self.other[..lent[1]]);
+        let answer = library(given, &mut self.out[..lent[0]], &mut self.other[..lent[1]]);
         if !keeps_contract(given, &answer, lent) {
             fail(given, lent, &format!("{answer:?} is not an answer of its contract"));
         }
@@ -96,8 +98,7 @@ impl<'a> Turn<'a> {
     fn judge(&mut self, given: &Given, lent: [usize; 2], answer: Answer, fill: u8) {
         self.judged += 1;
         let (mut out, mut other) = ([fill; ROOM], [!fill; ROOM]);
-        let expected =
-            self.judge.answer(given, &mut out[..lent[0]], &mut other[..lent[1]]);
+        let expected = self.judge.answer(given, &mut out[..lent[0]], &mut other[..lent[1]]);
         if expected != answer {
             fail(given, lent, &format!("{answer:?}, the second program says {expected:?}"));
         }
@@ -279,7 +280,8 @@ impl<'a> Turn<'a> {
         let (value, _) = self.roomy(&given(Entry::ValueAt));
         let (compatible, _) = self.roomy(&alone(Entry::Compatible));
         let refused = |a: &Answer| (a.refusal, a.offset);
-        let apart = check.refusal != DONE && [leaf, value].iter().any(|a| refused(a) != refused(&check));
+        let apart =
+            check.refusal != DONE && [leaf, value].iter().any(|a| refused(a) != refused(&check));
         if apart || refused(&compatible) != refused(&check) {
             fail(&given(Entry::LeafAt), [ROOM, 0], "entries of one sheet refuse otherwise");
         }
@@ -296,12 +298,19 @@ impl<'a> Turn<'a> {
     }
 
     /// The weights give the point in the leaf of the record's number, and the value with its samples.
-    fn weighed(&mut self, given: &Given, check: &Answer, leaf: &Answer, weights: &Bytes, value: &Answer) {
+    fn weighed(
+        &mut self,
+        given: &Given,
+        check: &Answer,
+        leaf: &Answer,
+        weights: &Bytes,
+        value: &Answer,
+    ) {
         let number = leaf.numbers[1];
         if value.refusal != DONE || number >= check.numbers[0] {
             fail(given, [ROOM, 0], "a leaf with no value, or no record of the sheet");
         }
-        let (code, samples) = record(given.one, number as usize);
+        let (code, samples) = sheets::record(given.one, number as usize);
         let (d, boxes) = (code[0] as usize, code[1] as usize / code[0] as usize);
         let (_, points) = self.roomy(&of_code(Entry::Vertices, code, 0));
         let (side, weights) = ((CUBE_SIDE >> boxes) as u64, two_bytes(weights.get()));
@@ -317,6 +326,11 @@ impl<'a> Turn<'a> {
 
     pub fn all_sheets(&mut self, rounds: u64) {
         for n in 0..rounds {
+            if n % RENEWED == 0 {
+                let (at, d) = (self.random.below(self.sheets.len()), 2 + self.random.below(3));
+                let kind = self.random.below(KINDS);
+                self.sheets[at] = (d, some_sheet(&mut self.random, d, kind));
+            }
             let (d, sheet) = self.sheets[self.random.below(self.sheets.len())].clone();
             let mut point = points::bytes(&points::anywhere(&mut self.random, d), d);
             if n % 16 == 0 {
@@ -337,24 +351,6 @@ fn two_bytes(bytes: &[u8]) -> Vec<u64> {
     bytes.chunks(2).map(|two| two[0] as u64 + 256 * two[1] as u64).collect()
 }
 
-/// The code and the samples of a good sheet's record.
-fn record(sheet: &[u8], number: usize) -> (&[u8], &[u8]) {
-    let mut at = 0;
-    for _ in 0..number {
-        at = record_parts(sheet, at).1;
-    }
-    let (samples, end) = record_parts(sheet, at);
-    (&sheet[at + MARK.len()..samples], &sheet[samples..end])
-}
-
-/// Where the samples of the record at an offset begin and end.
-fn record_parts(sheet: &[u8], at: usize) -> (usize, usize) {
-    let code = at + MARK.len();
-    let (d, depth) = (sheet[code] as usize, sheet[code + 1] as usize);
-    let samples = code + code_length(d, depth);
-    (samples, samples + 2 * (d + 1))
-}
-
 fn vertex(points: &Bytes, place: usize, d: usize) -> &[u8] {
     &points.get()[2 * d * place..2 * d * (place + 1)]
 }
@@ -362,7 +358,8 @@ fn vertex(points: &Bytes, place: usize, d: usize) -> &[u8] {
 /// All points but one of each are those of the other, in any order.
 fn share_but_one(points: &Bytes, facet: u8, others: &Bytes, place: u8, d: usize) -> bool {
     let of_facet = |i: &usize| *i != facet as usize;
-    let there = |i| (0..=d).any(|j| j != place as usize && vertex(points, i, d) == vertex(others, j, d));
+    let there =
+        |i| (0..=d).any(|j| j != place as usize && vertex(points, i, d) == vertex(others, j, d));
     points.length == others.length
         && (0..=d).filter(of_facet).all(there)
         && vertex(points, facet as usize, d) != vertex(others, place as usize, d)
