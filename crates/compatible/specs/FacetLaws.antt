@@ -47,13 +47,13 @@ pub record FacetIs (mark : List ℕ) (width : ℕ) (sheet code : List ℕ) (i : 
   pub holds : r ≡ true → {n : ℕ} (g : GoodSheet mark width sheet n) (c : TreeCell) → GoodCell c → code ≡ codeFor c → ¬ Walls c i → Meets (g .cells) c i
   pub fails : r ≡ false → {n : ℕ} (g : GoodSheet mark width sheet n) (c : TreeCell) → GoodCell c → code ≡ codeFor c → (¬ Walls c i) × (Meets (g .cells) c i → ⊥)
 
+pub facet-passes : {mark : List ℕ} {width : ℕ} {sheet : List ℕ} {d : ℕ} {index : List ℕ} {spread : Spread} {code : List ℕ} {i : ℕ} → FacetReady mark width sheet d index spread code i → codeRefusal code ≡ done
+facet-passes ready = rw (ready .is) (code-passes (ready .cell .root) (ready .cell .path) (ready .good .good-root) (ready .good .good-path))
+
 module _ {mark : List ℕ} {width : ℕ} {sheet : List ℕ} {d : ℕ} {index : List ℕ} {spread : Spread} {code : List ℕ} {i : ℕ} (ready : FacetReady mark width sheet d index spread code i)
     {before after : List ℕ} {r : Crossed} (x : Crosses code i before r after) (room : length before ≡ longestOfAll) where
   abbrev own : TreeCell
   own = ready .cell
-
-  passes : codeRefusal code ≡ done
-  passes = rw (ready .is) (code-passes (own .root) (own .path) (ready .good .good-root) (ready .good .good-path))
 
   own-code : IsCodeOf code (own .root) (own .path)
   own-code = subst (λ (l : List ℕ). IsCodeOf l (own .root) (own .path)) (sym (ready .is)) (code-of-cell (ready .good))
@@ -62,7 +62,7 @@ module _ {mark : List ℕ} {width : ℕ} {sheet : List ℕ} {d : ℕ} {index : L
   axes-of = sym (length-root own-code) ∙ ready .axes
 
   met : outcome.Meets code i before r after
-  met = x .meets passes (rw axes-of (ready .small))
+  met = x .meets (facet-passes ready) (rw axes-of (ready .small))
 
   -- the same cell, by its code
   same : (c : TreeCell) → GoodCell c → code ≡ codeFor c → c ≡ own

@@ -91,7 +91,7 @@ fn facet_holds(
     ensures { λ r. ⌜ FacetIs (markOf edition) (edition .width) (now (sheet .entry)) (now (code .entry)) facet r ⌝ }
 {
     let mut across = [0u8; Dim::LONGEST_CODE];
-    let crossed = crossing::cross(code, facet, &mut across);
+    let crossed = crossing::cross_checked(code, facet, &mut across);
     if crossed.refusal != DONE {
         return true;
     }

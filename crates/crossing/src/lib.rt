@@ -3,6 +3,7 @@
 // last refusal is past. A crossing stays in the cell's box, where it rearranges the entries, or leaves it for the
 // box beside it, where the orthants change by carry.
 ghost use mathlib.Core.Path.{_≡_};
+ghost use Rattle.bisection.specs.Refusals.{done, codeRefusal};
 ghost use Rattle.crossing.specs.Outcome.{Crosses};
 ghost use Rattle.crossing.specs.Leaving.{Leaving};
 ghost use Rattle.crossing.specs.Staying.{Staying};
@@ -83,14 +84,11 @@ fn cross_outside(code: &[u8], d: usize, at: usize, e: u8, facet: u8, out: &mut [
     }
 }
 
-// Across a facet lies a cell that has all its vertices, or a face of the cube.
-pub fn cross(code: &[u8], facet: u8, out: &mut [u8]) -> Crossed
+// The cell across a facet of a code that has been checked.
+pub fn cross_checked(code: &[u8], facet: u8, out: &mut [u8]) -> Crossed
+    requires { ⌜ codeRefusal (now code) ≡ done ⌝ }
     ensures { λ r. ⌜ Crosses (now (code .entry)) facet (now (out .entry)) r (now (out .exit)) ⌝ }
 {
-    let refusal = codes::code_check(code);
-    if refusal != DONE {
-        return refused(refusal);
-    }
     let d = check::axes_of(code);
     let i = common::size(facet);
     if d < i {
@@ -105,4 +103,15 @@ pub fn cross(code: &[u8], facet: u8, out: &mut [u8]) -> Crossed
         return cross_outside(code, d, at, e, facet, out);
     }
     cross_inside(code, d, k, facet, out)
+}
+
+// Across a facet lies a cell that has all its vertices, or a face of the cube.
+pub fn cross(code: &[u8], facet: u8, out: &mut [u8]) -> Crossed
+    ensures { λ r. ⌜ Crosses (now (code .entry)) facet (now (out .entry)) r (now (out .exit)) ⌝ }
+{
+    let refusal = codes::code_check(code);
+    if refusal != DONE {
+        return refused(refusal);
+    }
+    cross_checked(code, facet, out)
 }
