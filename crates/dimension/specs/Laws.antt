@@ -5,9 +5,9 @@ use mathlib.Core.Logic.{_⊎_, inl, inr}
 use Prim.Native.Nat.{ℕ, zero, suc, _+_, _*_, _/_, _%_, _-_, _^_, _≤_, _<_}
 use native.Mathlib.Omega.{arith}
 use native.Mathlib.Numerals.{add-one}
-use native.Mathlib.Nat.{mul-comm, div-add-mod', mod-lt, div-div-eq-div-mul, div-lt-iff-lt-mul, mul-div-right, zero-div, zero-mod, eq-of-mul-eq-mul-left}
+use native.Mathlib.Nat.{mul-comm, add-mul, div-add-mod', mod-lt, div-div-eq-div-mul, div-lt-iff-lt-mul, mul-div-right, zero-div, zero-mod, eq-of-mul-eq-mul-left}
 use native.Mathlib.Nat.{mul-lt-mul-of-pos-right, mul-le-mul-left, mul-le-mul, le-div-iff-mul-le, div-mul-le-self, mul-assoc, lt-of-mul-lt-mul-right}
-use native.Mathlib.Nat.{mul-le-mul-right, mul-div-mul-right, mod-eq-sub-mul-div, mul-div-le}
+use native.Mathlib.Nat.{mul-le-mul-right, mod-eq-sub-mul-div, mul-div-le}
 use native.Mathlib.Decide.{decLt, ℕ-discrete}
 use lib.Arith.{digits-div, digits-mod}
 use lib.Pow.{pow-add, pow-pos, pow-lt}
@@ -242,23 +242,31 @@ box-small d D n = div-le D d (n .two)
 pub four : {d : ℕ} → Dimension d → (d ≡ 2 → ⊥) → (d ≡ 3 → ⊥) → d ≡ 4
 four n a b = omega (arith, n .two, n .few)
 
--- a quotient by the dimension, as one by twelve
-pub box-depth-by : (d D p : ℕ) → 0 < d → d * p ≡ 12 → D * p / 12 ≡ boxDepth d D
-unfolding boxDepth
-box-depth-by d D p d0 e = rw (← e) (mul-div-mul-right D d pos)
-  where
-    pos : 0 < p
-    pos = go p e
-      where
-        go : (p : ℕ) → d * p ≡ 12 → 0 < p
-        go zero q = absurd (omega arith)
-        go (suc p) q = omega arith
+-- a quotient by the dimension, as one by 65,536 of an axis' share of it
+module _ (d D p : ℕ) (n : Dimension d) (least : 65536 ≤ d * p) (most : d * p ≤ 65538) where
+  share-least : 16384 ≤ p
+  share-least = omega (arith, mul-le-mul-right p (n .few), least)
 
-pub twelfths-few : (d p : ℕ) → Dimension d → d * p ≡ 12 → p ≤ 12
-twelfths-few d p n e = omega (arith, mul-le-mul-right p (n .two))
+  share-most : p ≤ 32769
+  share-most = omega (arith, mul-le-mul-right p (n .two), most)
 
-pub fits-product : (D p : ℕ) → D < 65536 → p ≤ 12 → D * p < 2 ^ 64
-fits-product D p h l = omega (arith, mul-le-mul {n₁ = D} {m₁ = p} {n₂ = 65535} {m₂ = 12} (omega arith) l)
+  pub share-fits : D < 8192 → D * p < 2 ^ 64
+  share-fits h = omega (arith, mul-le-mul {n₁ = D} {m₁ = p} {n₂ = 8191} {m₂ = 32769} (omega arith) share-most)
+
+  pub box-depth-by : D < 8192 → D * p / 65536 ≡ boxDepth d D
+  unfolding boxDepth
+  box-depth-by h = omega (arith, product, mul-le-mul-left (D / d) least, mul-le-mul-left (D / d) most, rest, share-least, few, least, most)
+    where
+      -- D p is q (d p) and r p
+      product : D * p ≡ D / d * (d * p) + D % d * p
+      product = ap (λ (x : ℕ). x * p) (sym (div-add-mod' D d)) ∙ add-mul (D / d * d) (D % d) p ∙ ap (λ (x : ℕ). x + D % d * p) (mul-assoc (D / d) d p)
+
+      -- r p and p are at most d p
+      rest : suc (D % d) * p ≤ d * p
+      rest = mul-le-mul-right p (mod-lt D {m = d} (omega (arith, n .two)))
+
+      few : 2 * (D / d) ≤ D
+      few = omega (arith, mul-div-le D d, mul-le-mul-right (D / d) (n .two))
 
 -- the split place from the quotient
 module _ (d D x q : ℕ) (e : x ≡ d) (f : q ≡ boxDepth d D) where

@@ -83,24 +83,24 @@ impl Dim {
         }
     }
 
-    // Twelve divided by the axes.
-    pub fn twelfths(self) -> usize
-        ensures { λ r. ⌜ axesOf self * r ≡ 12 ⌝ }
+    // One axis' share of 65,536, rounded up.
+    pub fn share(self) -> usize
+        ensures { λ r. ⌜ (65536 ≤ axesOf self * r) × (axesOf self * r ≤ 65538) ⌝ }
     {
         match self {
-            Dim::Two => 6,
-            Dim::Three => 4,
-            Dim::Four => 3,
+            Dim::Two => 32768,
+            Dim::Three => 21846,
+            Dim::Four => 16384,
         }
     }
 
-    // How often the cube was halved to give the box at a depth. The dimensions divide twelve, so that one division
-    // by a constant serves them all, with no branch on the dimension, at every depth that a byte can hold.
+    // How often the cube was halved to give the box at a depth. One multiplication and a shift serve all dimensions, with no branch
+    // and no division, at every depth that a byte can hold.
     pub fn box_depth(self, depth: usize) -> usize
         ensures { λ r. ⌜ r ≡ boxDepth (axesOf self) depth ⌝ }
     {
-        if depth < 65536 {
-            return depth * self.twelfths() / 12;
+        if depth < 8192 {
+            return depth * self.share() / 65536;
         }
         depth / self.axes()
     }

@@ -1,9 +1,8 @@
--- `Dim::box_depth` meets its contract: a quotient by twelve of a small depth, by the axes of any other.
+-- `Dim::box_depth` meets its contract: by the share of an axis of a small depth, by the axes of any other.
 use mathlib.Core.Path.{refl}
-use Prim.Native.Nat.{_-_}
 use native.Mathlib.Omega.{arith}
 use Rattle.dimension.specs.Sizes.{boxDepth}
-use Rattle.dimension.specs.Laws.{axes-range, box-depth-by, twelfths-few, fits-product}
+use Rattle.dimension.specs.Laws.{axes-range, box-depth-by, share-fits}
 use borrow.Author.Needs.{needs}
 use Rattle.dimension.proofs.Dim.box_depth.Statement.{statement}
 use Rattle.dimension.proofs.Dim.box_depth.Tie as tie
@@ -11,7 +10,12 @@ use Rattle.dimension.proofs.Dim.box_depth.Tie as tie
 mul-result : tie.Need-mul-result
 mul-result c =
     let args = c .before .before .args in
-    record { fits = fits-product (args .depth) (c .twelfths .result) (c .before .if1 .taken) (twelfths-few _ _ (axes-range (args .self)) (c .twelfths .ensures)) }
+    record { fits = share-fits _ (args .depth) (c .share .result) (axes-range (args .self)) (c .share .ensures .0) (c .share .ensures .1) (c .before .if1 .taken) }
+
+returns : tie.Need-returns
+returns c =
+    let args = c .before .before .args in
+    box-depth-by _ (args .depth) (c .share .result) (axes-range (args .self)) (c .share .ensures .0) (c .share .ensures .1) (c .before .if1 .taken)
 
 pub box-depth-spec : {M : Type 1} → statement M
 box-depth-spec =
@@ -19,7 +23,7 @@ box-depth-spec =
     (tie.spec
     (λ c κs. search needs)
     mul-result
-    (λ c. box-depth-by _ _ _ (omega (arith, (axes-range (c .before .before .args .self)) .two)) (c .twelfths .ensures))
+    returns
     (λ c κs. search needs)
     (λ c. omega (arith, c .axes .ensures, (axes-range (c .before .before .args .self)) .two))
     (λ c. unfold boxDepth in rw (c .axes .ensures) refl))
