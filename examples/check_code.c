@@ -66,7 +66,7 @@ int main(int count, char **words)
     }
     uint8_t refusal = rmk_code_check(code, (size_t)length);
     if (refusal != RMK_DONE) {
-        printf("refused %d\n", refusal);
+        printf("refused %d: %s\n", refusal, rmk_refusal_text(refusal));
         return 1;
     }
     print_code("code", code, (size_t)length);

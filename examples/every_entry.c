@@ -1,7 +1,7 @@
 /*
- * Tries reshmokhit.h: its constants, its answers' fields and its entries' types are held against a list written down
- * here, and every entry is called with document 01's examples. Each answer's numbers and each lent cell are compared
- * with what the document says; what differs is printed, and the exit status is then 1.
+ * Tries reshmokhit.h: its constants, its refusals in words, its answers' fields and its entries' types are held against
+ * a list written down here, and every entry is called with document 01's examples. Each answer's numbers and each lent
+ * cell are compared with what the document says; what differs is printed, and the exit status is then 1.
  *
  * It is C11 and C++11, so that the header is tried in both. What is expected comes from the document's text: the worked
  * cells P1 to P10, the 24-byte sheet, the limits, the order of the refusals, and for a few more cells and points the rules
@@ -185,6 +185,14 @@ static void same_value(double expected, double given)
     if (memcmp(&expected, &given, sizeof given) == 0)
         return;
     printf("%s: value is %.17g, not %.17g\n", call, given, expected);
+    differences++;
+}
+
+static void same_text(const char *name, const char *expected, const char *given)
+{
+    if (strcmp(expected, given) == 0)
+        return;
+    printf("%s: %s is \"%s\", not \"%s\"\n", call, name, given, expected);
     differences++;
 }
 
@@ -632,9 +640,52 @@ static void try_query_refusals(void)
         leaf_at_bytes(SHEET, "1024 1024", coordinates("1024 1024"), lent, RMK_REFUSED_SHORT, 0, 0, "");
 }
 
+static void refusal_in_words(uint8_t refusal, const char *name, const char *sentence)
+{
+    char number[8];
+    snprintf(number, sizeof number, "%d", refusal);
+    begin("words", number, "");
+    same_text("name", name, rmk_refusal_name(refusal));
+    same_text("sentence", sentence, rmk_refusal_text(refusal));
+}
+
+static void try_words(void)
+{
+    refusal_in_words(0, "RMK_DONE", "done");
+    refusal_in_words(1, "RMK_REFUSED_DIMENSION", "dimension is not 2, 3 or 4");
+    refusal_in_words(2, "RMK_REFUSED_DEPTH", "depth above 12 d");
+    refusal_in_words(3, "RMK_REFUSED_LENGTH", "a code alone: under 2 bytes, or not 2 + d + depth div d bytes");
+    refusal_in_words(4, "RMK_REFUSED_PERMUTATION", "axis outside 1..d, or repeated; in a root also any sign");
+    refusal_in_words(5, "RMK_REFUSED_ORTHANT", "an orthant byte of 2^d or more");
+    refusal_in_words(6, "RMK_REFUSED_SIGN", "a sign that the box forbids");
+    refusal_in_words(7, "RMK_REFUSED_STEP", "facet above d, child above 1, or path byte above 1");
+    refusal_in_words(8, "RMK_REFUSED_FACE", "facet lies in a face of the cube");
+    refusal_in_words(9, "RMK_REFUSED_ROOT", "parent of a root");
+    refusal_in_words(10, "RMK_REFUSED_DEEPEST", "child at the greatest depth");
+    refusal_in_words(11, "RMK_REFUSED_SHORT", "a lent output is shorter than the answer");
+    refusal_in_words(12, "RMK_REFUSED_POINT", "point has not d coordinates, or one outside 0 to 4096");
+    refusal_in_words(13, "RMK_REFUSED_RECORD", "sheet: mark missing or wrong, or record cut short");
+    refusal_in_words(14, "RMK_REFUSED_LEAF", "sheet: another dimension, not the next leaf, or ended early");
+    refusal_in_words(15, "RMK_REFUSED_INPUT", "listing program only: input over 65,536 bytes");
+    for (unsigned other = 16; other < 256; other++)
+        refusal_in_words((uint8_t)other, "unknown", "no refusal has this number");
+}
+
+/* Three numbers with dots between them. */
+static void try_version(void)
+{
+    unsigned parts[3];
+    int end = 0;
+    begin("version", RMK_VERSION, "");
+    same_number("numbers", 3, (size_t)sscanf(RMK_VERSION, "%u.%u.%u%n", &parts[0], &parts[1], &parts[2], &end));
+    same_text("the rest", "", RMK_VERSION + end);
+}
+
 int main(void)
 {
     entry_types();
+    try_version();
+    try_words();
     try_code_check();
     try_path_to_code();
     try_code_to_path();

@@ -16,6 +16,8 @@
  *    keep their content.
  *  - A coordinate is two bytes, low byte first; so is a weight.
  *
+ * The archive's global symbols all begin with rmk_, and it needs none but the C library's memset.
+ *
  * The order for a code, named once: RMK_REFUSED_LENGTH (under 2 bytes), DIMENSION, DEPTH, LENGTH,
  * PERMUTATION, ORTHANT, SIGN.
  */
@@ -29,6 +31,9 @@
 extern "C" {
 #endif
 
+/* The version. It stands here alone: the scripts read this line. */
+#define RMK_VERSION "0.9.0"
+
 /* Sizes. The longest ones suffice as lent outputs in every dimension. */
 #define RMK_HALVINGS 12        /* the greatest depth is this times the dimension */
 #define RMK_CUBE_SIDE 4096     /* two to the power RMK_HALVINGS */
@@ -39,7 +44,7 @@ extern "C" {
 #define RMK_LONGEST_WEIGHTS 10 /* bytes: 2 (d + 1) */
 
 /* Refusal numbers. */
-#define RMK_DONE 0
+#define RMK_DONE 0                /* done */
 #define RMK_REFUSED_DIMENSION 1   /* dimension is not 2, 3 or 4 */
 #define RMK_REFUSED_DEPTH 2       /* depth above 12 d */
 #define RMK_REFUSED_LENGTH 3      /* a code alone: under 2 bytes, or not 2 + d + depth div d bytes */
@@ -264,6 +269,66 @@ rmk_leaf_answer rmk_leaf_at(const uint8_t *sheet, size_t sheet_length, const uin
  */
 rmk_value_answer rmk_value_at(const uint8_t *sheet, size_t sheet_length, const uint8_t *point,
                               size_t point_length);
+
+/* Refusals in words. These two are plain C and in no archive: it has the proved entries and no more. */
+
+/** Refusal's name: that of its constant.
+ * \param [in] refusal  The refusal number, or any other.
+ * \return              The name, or "unknown" where no refusal has the number. It is not to be freed.
+ *
+ * Example:             6 gives "RMK_REFUSED_SIGN", 16 gives "unknown".
+ */
+static inline const char *rmk_refusal_name(uint8_t refusal)
+{
+    switch (refusal) {
+    case RMK_DONE: return "RMK_DONE";
+    case RMK_REFUSED_DIMENSION: return "RMK_REFUSED_DIMENSION";
+    case RMK_REFUSED_DEPTH: return "RMK_REFUSED_DEPTH";
+    case RMK_REFUSED_LENGTH: return "RMK_REFUSED_LENGTH";
+    case RMK_REFUSED_PERMUTATION: return "RMK_REFUSED_PERMUTATION";
+    case RMK_REFUSED_ORTHANT: return "RMK_REFUSED_ORTHANT";
+    case RMK_REFUSED_SIGN: return "RMK_REFUSED_SIGN";
+    case RMK_REFUSED_STEP: return "RMK_REFUSED_STEP";
+    case RMK_REFUSED_FACE: return "RMK_REFUSED_FACE";
+    case RMK_REFUSED_ROOT: return "RMK_REFUSED_ROOT";
+    case RMK_REFUSED_DEEPEST: return "RMK_REFUSED_DEEPEST";
+    case RMK_REFUSED_SHORT: return "RMK_REFUSED_SHORT";
+    case RMK_REFUSED_POINT: return "RMK_REFUSED_POINT";
+    case RMK_REFUSED_RECORD: return "RMK_REFUSED_RECORD";
+    case RMK_REFUSED_LEAF: return "RMK_REFUSED_LEAF";
+    case RMK_REFUSED_INPUT: return "RMK_REFUSED_INPUT";
+    default: return "unknown";
+    }
+}
+
+/** Refusal's sentence: when it is given, as the comment at its constant says.
+ * \param [in] refusal  The refusal number, or any other.
+ * \return              The sentence, or "no refusal has this number". It is not to be freed.
+ *
+ * Example:             6 gives "a sign that the box forbids", 16 gives "no refusal has this number".
+ */
+static inline const char *rmk_refusal_text(uint8_t refusal)
+{
+    switch (refusal) {
+    case RMK_DONE: return "done";
+    case RMK_REFUSED_DIMENSION: return "dimension is not 2, 3 or 4";
+    case RMK_REFUSED_DEPTH: return "depth above 12 d";
+    case RMK_REFUSED_LENGTH: return "a code alone: under 2 bytes, or not 2 + d + depth div d bytes";
+    case RMK_REFUSED_PERMUTATION: return "axis outside 1..d, or repeated; in a root also any sign";
+    case RMK_REFUSED_ORTHANT: return "an orthant byte of 2^d or more";
+    case RMK_REFUSED_SIGN: return "a sign that the box forbids";
+    case RMK_REFUSED_STEP: return "facet above d, child above 1, or path byte above 1";
+    case RMK_REFUSED_FACE: return "facet lies in a face of the cube";
+    case RMK_REFUSED_ROOT: return "parent of a root";
+    case RMK_REFUSED_DEEPEST: return "child at the greatest depth";
+    case RMK_REFUSED_SHORT: return "a lent output is shorter than the answer";
+    case RMK_REFUSED_POINT: return "point has not d coordinates, or one outside 0 to 4096";
+    case RMK_REFUSED_RECORD: return "sheet: mark missing or wrong, or record cut short";
+    case RMK_REFUSED_LEAF: return "sheet: another dimension, not the next leaf, or ended early";
+    case RMK_REFUSED_INPUT: return "listing program only: input over 65,536 bytes";
+    default: return "no refusal has this number";
+    }
+}
 
 #ifdef __cplusplus
 }
