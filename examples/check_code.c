@@ -1,10 +1,10 @@
 /*
- * Checks a code, given as hex on the command line, and prints its cell's vertices and its parent's code.
- * Exit status 1 if the code is refused.
+ * Checks codes, given as hex on the command line, and prints of each its cell's vertices and its parent's code.
+ * Exit status 1 if one is refused.
  */
-#include "reshmokhit.h"
+#include "bytes.h"
+#include "refusals.h"
 
-#include <stdio.h>
 #include <string.h>
 
 #define DEFAULT_CODE "0202810201"
@@ -24,24 +24,16 @@ static int read_hex(const char *text, uint8_t *bytes)
     return (int)count;
 }
 
-static void print_code(const char *name, const uint8_t *code, size_t length)
-{
-    printf("%s ", name);
-    for (size_t i = 0; i < length; i++)
-        printf("%02x", code[i]);
-    printf("\n");
-}
-
-/* One line for each vertex; a coordinate is two bytes, low byte first. */
+/* One line for each vertex. */
 static void print_vertices(const uint8_t *code, size_t length)
 {
     uint8_t points[RMK_LONGEST_POINTS];
     rmk_written written = rmk_vertices(code, length, points, sizeof points);
+    need_done("rmk_vertices", written.refusal);
     size_t d = code[0];
     for (size_t at = 0; at < written.length; at += 2 * d) {
-        printf("vertex %zu:", at / (2 * d));
-        for (size_t a = 0; a < d; a++)
-            printf(" %d", points[at + 2 * a] + 256 * points[at + 2 * a + 1]);
+        printf("vertex %zu: ", at / (2 * d));
+        print_point(points + at, d);
         printf("\n");
     }
 }
@@ -50,27 +42,42 @@ static void print_parent(const uint8_t *code, size_t length)
 {
     uint8_t parent[RMK_LONGEST_CODE];
     rmk_written written = rmk_parent(code, length, parent, sizeof parent);
-    if (written.refusal == RMK_REFUSED_ROOT)
+    if (written.refusal == RMK_REFUSED_ROOT) {
         printf("parent none, it is a root\n");
-    else
-        print_code("parent", parent, written.length);
+        return;
+    }
+    need_done("rmk_parent", written.refusal);
+    printf("parent ");
+    print_hex(parent, written.length);
+    printf("\n");
+}
+
+/* Gives the exit status: 0 if the code is good, 1 if it is refused, 2 if the text is not hex. */
+static int tell(const char *text)
+{
+    uint8_t code[MOST_BYTES];
+    int length = read_hex(text, code);
+    if (length < 0) {
+        fprintf(stderr, "usage: check_code [code in hex, at most %d bytes]..\n", MOST_BYTES);
+        return 2;
+    }
+    printf("code %s\n", text);
+    uint8_t refusal = rmk_code_check(code, (size_t)length);
+    if (refusal != RMK_DONE) {
+        printf("%s\n", rmk_refusal_name(refusal));
+        return 1;
+    }
+    print_vertices(code, (size_t)length);
+    print_parent(code, (size_t)length);
+    return 0;
 }
 
 int main(int count, char **words)
 {
-    uint8_t code[MOST_BYTES];
-    int length = read_hex(count > 1 ? words[1] : DEFAULT_CODE, code);
-    if (length < 0) {
-        fprintf(stderr, "usage: check_code [code in hex, at most %d bytes]\n", MOST_BYTES);
-        return 2;
+    int status = count > 1 ? 0 : tell(DEFAULT_CODE);
+    for (int i = 1; i < count && status < 2; i++) {
+        int one = tell(words[i]);
+        status = one > status ? one : status;
     }
-    uint8_t refusal = rmk_code_check(code, (size_t)length);
-    if (refusal != RMK_DONE) {
-        printf("refused %d: %s\n", refusal, rmk_refusal_text(refusal));
-        return 1;
-    }
-    print_code("code", code, (size_t)length);
-    print_vertices(code, (size_t)length);
-    print_parent(code, (size_t)length);
-    return 0;
+    return status;
 }

@@ -7,6 +7,9 @@ fn main() {
     let mut text = [0u8; listing::TEXT_ROOM];
     let length = listing::list_sheet(&sheet[..read], &mut text);
     if !io::write_all(libc::STDOUT_FILENO, &text[..length]) {
-        io::write_all(libc::STDERR_FILENO, b"sheet_list: the output could not be written whole\n");
+        io::write_all(
+            libc::STDERR_FILENO,
+            b"sheet_list: the output could not be written whole\n",
+        );
     }
 }
