@@ -119,7 +119,7 @@ impl Comparison<'_> {
 }
 
 fn main() {
-    let options = Options::read(600);
+    let options = Options::read(300);
     let finder = Finder::new();
     worked::check(&finder);
     let (sheets, random) = (Sheets::new(&finder), Random::new(options.seed));
