@@ -235,7 +235,8 @@ rmk_sheet_answer rmk_sheet_check(const uint8_t *sheet, size_t sheet_length);
  *                      half replaced by its own halves, 02 02 01 02 00 and 02 02 81 02 01, no more: 0.
  * Cost:                one pass to check the sheet and one to fill the index; then for each facet of each
  *                      leaf one crossing and one search, or two where the cell across is split: among
- *                      the index's records by halving, and from there over at most records / 10240 more.
+ *                      the index's records by halving, and from there over at most records / 9216 more,
+ *                      none where the cell stands near its leaf in tree order, as most do.
  */
 rmk_compatible_answer rmk_compatible(const uint8_t *sheet, size_t sheet_length);
 

@@ -1,7 +1,7 @@
 -- What is proved of the definitions.
 -- Tests in their order: which refusal comes first.
 pub mod Ladders
--- Lists with one element put in another's place, or turned by one.
+-- Lists with one element put in another's place, or turned by one; the midpoint of two points, and the size of a point's bytes.
 pub mod Lists
 -- One axis of a cell: the closed form, and what a step of the bisection makes of it.
 pub mod Axis

@@ -95,6 +95,9 @@ module _ {code : List ℕ} (ready : Headed code) {n : ℕ} (byte : n ≡ getD co
   pub body-some : 1 ≤ n
   body-some = omega (arith, is-dimension, ready-range ready .two)
 
+  pub body-two : 2 ≤ n
+  body-two = omega (arith, is-dimension, ready-range ready .two)
+
   pub body-few : n ≤ 4
   body-few = omega (arith, is-dimension, ready-range ready .few)
 

@@ -20,7 +20,7 @@ module _ {sheet : List ℕ} {d records : ℕ} (c : Checked sheet d records) {e :
   own : (g : GoodSheet (markOf e) (e .width) sheet records) × (g .dimension ≡ d)
   own = rw (f .mark-is, f .width-is) (subst (λ (n : ℕ). (g : Good sheet n) × (g .dimension ≡ d)) (c .count-is) (c .good-sheet, c .axes))
 
-  pub index-ready : {index : List ℕ} → 3 ≤ length index → IndexReady (markOf e) (e .width) sheet d records index
+  pub index-ready : {index : List ℕ} → 30 ≤ length index → IndexReady (markOf e) (e .width) sheet d records index
   index-ready l = record { good = own .0; axes = own .1; some = l }
 
   pub sheet-ready : {index : List ℕ} {spread : Spread} → Indexed (markOf e) (e .width) sheet d index spread → SheetReady (markOf e) (e .width) sheet d records index spread

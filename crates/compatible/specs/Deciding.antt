@@ -46,6 +46,17 @@ split-front [] b x y e l = (b, refl)
 split-front (u ∷ a) [] x y e l = absurd (omega arith)
 split-front (u ∷ a) (w ∷ b) x y e l = let q : u ≡ w = cc in let r : a ++ x ≡ b ++ y = cc in let o = split-front a b x y r (omega arith) in (o .0, ap (λ (z : ℕ). z ∷ b) (sym q) ∙ ap (λ (z : List ℕ). u ∷ z) (o .1))
 
+pub no-rest : (rest : List ℕ) → length rest ≡ 0 → rest ≡ []
+no-rest [] e = refl
+no-rest (b ∷ rest) e = absurd (omega arith)
+
+-- the root and the path of a cell that is a leaf
+leaf-root : {cs : List TreeCell} {c : TreeCell} (m : IsLeaf cs c) → leafIn cs (m .number) .root ≡ c .root
+leaf-root m = ap (λ (c : TreeCell). c .root) (m .is)
+
+leaf-path : {cs : List TreeCell} {c : TreeCell} (m : IsLeaf cs c) → leafIn cs (m .number) .path ≡ c .path
+leaf-path m = ap (λ (c : TreeCell). c .path) (m .is)
+
 module _ (d : ℕ) (known : isDimension d ≡ true) {cs : List TreeCell} (v : Leaves (roots d) (greatestDepth d) cs) where
   leaf-good : (i : ℕ) → i < length cs → GoodCell (leafIn cs i) × (length (leafIn cs i .root) ≡ d)
   leaf-good = cell-at (leaves-cells d known v)
@@ -80,16 +91,16 @@ module _ (d : ℕ) (known : isDimension d ≡ true) {cs : List TreeCell} (v : Le
         path = is ∙ ap (λ (r : List ℕ). leafIn cs n .path ++ b ∷ r) z
 
     pub near-parent : NearLeaf cs e → length (e .path) ≡ suc (length (leafIn cs n .path))
-    near-parent (itself m) = absurd (omega (arith, none-left l (m .small) (ap (λ (c : TreeCell). c .root) (m .is) ∙ same) (b ∷ rest) (ap (λ (c : TreeCell). c .path) (m .is) ∙ is)))
+    near-parent (itself m) = absurd (omega (arith, none-left l (m .small) (leaf-root m ∙ same) (b ∷ rest) (leaf-path m ∙ is)))
     near-parent (parent p a q m) = go (split-front (leafIn cs n .path) (p .path) (b ∷ rest) (a ∷ []) (sym is ∙ ap (λ (c : TreeCell). c .path) q) (omega (arith, long)))
       where
         long : length (leafIn cs n .path) + suc (length rest) ≡ suc (length (p .path))
         long = sym (length-append (leafIn cs n .path) (b ∷ rest)) ∙ ap length (sym is) ∙ ap (λ (c : TreeCell). length (c .path)) q ∙ length-append (p .path) (a ∷ []) ∙ omega arith
 
         go : (mid : List ℕ) × (p .path ≡ leafIn cs n .path ++ mid) → length (e .path) ≡ suc (length (leafIn cs n .path))
-        go o = let z = none-left l (m .small) (ap (λ (c : TreeCell). c .root) (m .is) ∙ sym (ap (λ (c : TreeCell). c .root) q) ∙ same) (o .0) (ap (λ (c : TreeCell). c .path) (m .is) ∙ o .1) in
+        go o = let z = none-left l (m .small) (leaf-root m ∙ sym (ap (λ (c : TreeCell). c .root) q) ∙ same) (o .0) (leaf-path m ∙ o .1) in
             omega (arith, z, ap length (o .1), length-append (leafIn cs n .path) (o .0), ap (λ (c : TreeCell). length (c .path)) q, length-append (p .path) (a ∷ []))
-    near-parent (child a h m) = absurd (omega (arith, none-left l (m .small) (ap (λ (c : TreeCell). c .root) (m .is) ∙ same) ((b ∷ rest) ++ a ∷ []) (ap (λ (c : TreeCell). c .path) (m .is) ∙ ap (λ (p : List ℕ). p ++ a ∷ []) is ∙ append-assoc (leafIn cs n .path) (b ∷ rest) (a ∷ [])), length-append (b ∷ rest) (a ∷ [])))
+    near-parent (child a h m) = absurd (omega (arith, none-left l (m .small) (leaf-root m ∙ same) ((b ∷ rest) ++ a ∷ []) (leaf-path m ∙ ap (λ (p : List ℕ). p ++ a ∷ []) is ∙ append-assoc (leafIn cs n .path) (b ∷ rest) (a ∷ [])), length-append (b ∷ rest) (a ∷ [])))
 
   -- ---- a cell that is split: near a leaf exactly where its first leaf is its child, or child 1 is a leaf
   module _ (e : TreeCell) {n : ℕ} (l : n < length cs) (same : leafIn cs n .root ≡ e .root) (b : ℕ) (rest : List ℕ) (is : leafIn cs n .path ≡ e .path ++ b ∷ rest) where
@@ -110,7 +121,7 @@ module _ (d : ℕ) (known : isDimension d ≡ true) {cs : List TreeCell} (v : Le
         some = unfold sizeOf in pow-pos (greatestDepth d - length (leafIn cs n .path))
 
         numbers : numberIn d (leafIn cs (m .number) .root) d * 2 ^ greatestDepth d ≡ numberIn d (leafIn cs n .root) d * 2 ^ greatestDepth d
-        numbers = ap (λ (r : List ℕ). numberIn d r d * 2 ^ greatestDepth d) (ap (λ (c : TreeCell). c .root) (m .is) ∙ sym same)
+        numbers = ap (λ (r : List ℕ). numberIn d r d * 2 ^ greatestDepth d) (leaf-root m ∙ sym same)
 
         here : startOf (greatestDepth d) (leafIn cs n .path) ≡ startOf (greatestDepth d) (e .path) + startOf (greatestDepth d - length (e .path)) (b ∷ rest)
         here = ap (startOf (greatestDepth d)) is ∙ start-joined (greatestDepth d) (e .path) (b ∷ rest)
@@ -120,10 +131,10 @@ module _ (d : ℕ) (known : isDimension d ≡ true) {cs : List TreeCell} (v : Le
 
     module _ (first : (j : ℕ) → j < n → leafIn cs j .root ≡ e .root → (more : List ℕ) → leafIn cs j .path ≡ e .path ++ more → ⊥) where
       pub near-child : NearLeaf cs e → (rest ≡ []) ⊎ IsLeaf cs (childOf 1 e)
-      near-child (itself m) = absurd (omega (arith, none-left (m .small) l (same ∙ sym (ap (λ (c : TreeCell). c .root) (m .is))) (b ∷ rest) (is ∙ ap (λ (c : TreeCell). c .path ++ b ∷ rest) (sym (m .is)))))
+      near-child (itself m) = absurd (omega (arith, none-left (m .small) l (same ∙ sym (leaf-root m)) (b ∷ rest) (is ∙ ap (λ (c : TreeCell). c .path ++ b ∷ rest) (sym (m .is)))))
       near-child (parent p a q m) = absurd (omega (
         arith,
-        none-left (m .small) l (same ∙ ap (λ (c : TreeCell). c .root) q ∙ sym (ap (λ (c : TreeCell). c .root) (m .is))) (a ∷ b ∷ rest)
+        none-left (m .small) l (same ∙ ap (λ (c : TreeCell). c .root) q ∙ sym (leaf-root m)) (a ∷ b ∷ rest)
             (is ∙ ap (λ (c : TreeCell). c .path ++ b ∷ rest) q ∙ append-assoc (p .path) (a ∷ []) (b ∷ rest) ∙ ap (λ (c : TreeCell). c .path ++ a ∷ b ∷ rest) (sym (m .is))),
       ))
       near-child (child (suc zero) h m) = inr m
@@ -131,18 +142,14 @@ module _ (d : ℕ) (known : isDimension d ≡ true) {cs : List TreeCell} (v : Le
       near-child (child zero h m) = go b refl bit
         where
           go : (x : ℕ) → b ≡ x → x ≤ 1 → (rest ≡ []) ⊎ IsLeaf cs (childOf 1 e)
-          go zero z k = inl (empty rest (none-left (m .small) l (same ∙ sym (ap (λ (c : TreeCell). c .root) (m .is))) rest
+          go zero z k = inl (no-rest rest (none-left (m .small) l (same ∙ sym (leaf-root m)) rest
               (is ∙ ap (λ (x : ℕ). e .path ++ x ∷ rest) z ∙ sym (append-assoc (e .path) (0 ∷ []) rest) ∙ ap (λ (c : TreeCell). c .path ++ rest) (sym (m .is)))))
-            where
-              empty : (r : List ℕ) → length r ≡ 0 → r ≡ []
-              empty [] q = refl
-              empty (x ∷ r) q = absurd (omega arith)
           go (suc zero) z k = absurd (behind (decLt (m .number) n) (decLt n (m .number)))
             where
               behind : Dec (m .number < n) → Dec (n < m .number) → ⊥
-              behind (yes o) p = first (m .number) o (ap (λ (c : TreeCell). c .root) (m .is)) (0 ∷ []) (ap (λ (c : TreeCell). c .path) (m .is))
+              behind (yes o) p = first (m .number) o (leaf-root m) (0 ∷ []) (leaf-path m)
               behind (no o) (yes p) = not-behind m z p
               behind (no o) (no p) = let q : n ≡ m .number = omega arith in
-                  let ends : e .path ++ b ∷ rest ≡ e .path ++ 0 ∷ [] = sym is ∙ ap (λ (i : ℕ). leafIn cs i .path) q ∙ ap (λ (c : TreeCell). c .path) (m .is) in
+                  let ends : e .path ++ b ∷ rest ≡ e .path ++ 0 ∷ [] = sym is ∙ ap (λ (i : ℕ). leafIn cs i .path) q ∙ leaf-path m in
                   omega (arith, ap (λ (p : List ℕ). getD (drop (length (e .path)) p) 0 0) ends, ap (λ (p : List ℕ). getD p 0 0) (drop-at (e .path) (b ∷ rest) (length (e .path)) refl), ap (λ (p : List ℕ). getD p 0 0) (drop-at (e .path) (0 ∷ []) (length (e .path)) refl))
           go (suc (suc x)) z k = absurd (omega arith)

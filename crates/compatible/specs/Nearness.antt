@@ -28,12 +28,12 @@ use Rattle.finding.specs.declared.Found.{Found}
 use Rattle.finding.specs.declared.Kind.{Kind}
 use Rattle.finding.specs.declared.Kind.the-variants.{Leaf, Inside, Split}
 use Rattle.finding.specs.Sizes.{start-joined}
-use Rattle.finding.specs.Records.{depth-sixty, good-stretch}
+use Rattle.finding.specs.Records.{good-axes, depth-sixty, good-stretch}
 use Rattle.finding.specs.Walk.{leaf-good}
 use Rattle.finding.specs.Theorems.OneOfThree.{among-one}
 use Rattle.finding.specs.Finding.{LiesIn, StrictlyIn, Among, is-leaf, inside, split, StandsAt, Indexed, FindReady, FoundIs}
 use Rattle.compatible.specs.Compatible.{IsLeaf, NearLeaf, itself, child}
-use Rattle.compatible.specs.Deciding.{start-small, parent-near, near-parent, child-near, near-child}
+use Rattle.compatible.specs.Deciding.{start-small, no-rest, parent-near, near-parent, child-near, near-child}
 
 -- an index of a good sheet, and a code of its dimension that passes
 pub record NearReady (mark : List ℕ) (width : ℕ) (sheet : List ℕ) (d : ℕ) (index : List ℕ) (spread : Spread) (code : List ℕ) : Type 0 where
@@ -66,10 +66,6 @@ kind-inside e = record { leaf = λ z. absurd (subst T (sym z) tt); other = λ z 
 pub kind-split : {k : Kind} → k ≡ Split → LeafKind k false
 kind-split e = record { leaf = λ z. absurd (subst T (sym z) tt); other = λ z q. subst T (ap isLeafKind (sym q ∙ e)) tt }
 
-no-rest : (rest : List ℕ) → length rest ≡ 0 → rest ≡ []
-no-rest [] e = refl
-no-rest (b ∷ rest) e = absurd (omega arith)
-
 -- the cell of the code stands where its position says
 stands : {d : ℕ} {code : List ℕ} → frontDimension code ≡ d → {p : Position} → PositionIs code p → (e : TreeCell) → IsCodeOf code (e .root) (e .path) → StandsAt d e p
 stands {d} {code} axes {p} at e c = subst (λ (n : ℕ). StandsAt n e p) (sym (front-root c) ∙ axes) (here (one-path (at .code-of) c))
@@ -87,7 +83,7 @@ cell-good e c = record { good-root = c .good-root; good-path = c .good-path }
 
 module _ {mark : List ℕ} {width : ℕ} {sheet : List ℕ} {d : ℕ} {code : List ℕ} (axes : frontDimension code ≡ d) {p : Position} (at : PositionIs code p) {r : Found} (f : FoundIs mark width sheet d p r) where
   known : isDimension d ≡ true
-  known = subst (λ (n : ℕ). isDimension n ≡ true) (f .axes) (f .good .is-dimension)
+  known = good-axes (f .good) (f .axes)
 
   leaves : Leaves (roots d) (greatestDepth d) (f .good .cells)
   leaves = subst (λ (n : ℕ). Leaves (roots n) (greatestDepth n) (f .good .cells)) (f .axes) (f .good .leaves)
@@ -191,7 +187,7 @@ module _ {mark : List ℕ} {width : ℕ} {sheet : List ℕ} {d : ℕ} {index : L
   near-two = code-two code (ready .passes)
 
   known-axes : isDimension d ≡ true
-  known-axes = subst (λ (n : ℕ). isDimension n ≡ true) (ready .indexed .axes) (ready .indexed .good .is-dimension)
+  known-axes = good-axes (ready .indexed .coarse .good) (ready .indexed .coarse .axes)
 
   pub depth-fits : {depth : ℕ} → depth ≡ frontDepth code → depth + 1 < 2 ^ 64
   depth-fits {depth} e = omega (arith, e, front-path own-code, own-code .good-path .depth, depth-sixty known-axes own-axes refl)

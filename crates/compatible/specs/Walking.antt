@@ -18,8 +18,10 @@ use Rattle.sheets.specs.Theorems.Good.{same-cells, same-count}
 use Rattle.sheets.specs.Theorems.Listing.{GoodCell}
 use Rattle.finding.specs.declared.Spread.{Spread}
 use Rattle.finding.specs.Finding.{Indexed}
+use Rattle.finding.specs.Indexes.{AboutReady}
 use Rattle.finding.specs.Records.{onward, AtRecord, record-known, record-depth, record-next}
 use Rattle.finding.specs.Walk.{From, from-start, Here, here, leaf-good}
+use Rattle.compatible.specs.declared.Judged.{Judged}
 use Rattle.compatible.specs.Compatible.{Meets, Compatible}
 use Rattle.compatible.specs.Crossing.{codeFor}
 use Rattle.compatible.specs.FacetLaws.{Walls, FacetReady, FacetIs}
@@ -76,6 +78,60 @@ module _ {mark : List ℕ} {width : ℕ} {sheet : List ℕ} {d : ℕ} {index : L
     pub facing-end : d < i → LeafHolds mark width sheet d code true
     facing-end l = record { holds = λ z j m. s .held j (omega arith); fails = λ z. absurd (subst T z tt) }
 
+-- ---- the leaf of a record
+
+-- an index of a good sheet, and a record of it
+pub record RecordReady (mark : List ℕ) (width : ℕ) (sheet : List ℕ) (d : ℕ) (index : List ℕ) (spread : Spread) (offset : ℕ) : Type 0 where
+  pub indexed : Indexed mark width sheet d index spread
+  pub number : ℕ
+  pub at : AtRecord mark width sheet d (greatestDepth d) number offset
+
+-- yes exactly where the rule holds of every facet of its leaf; and how long the record is
+pub record RecordHolds (mark : List ℕ) (width : ℕ) (sheet : List ℕ) (d offset : ℕ) (r : Judged) : Type 0 where
+  pub leaf : {number : ℕ} (a : AtRecord mark width sheet d (greatestDepth d) number offset) → LeafHolds mark width sheet d (codeFor (leafIn (a .good .cells) number)) (r .holds)
+  pub next : {number : ℕ} (a : AtRecord mark width sheet d (greatestDepth d) number offset) → From (a .good) (suc number) (offset + r .length)
+
+leaf-in : {mark : List ℕ} {width : ℕ} {sheet : List ℕ} {d number offset : ℕ} (r : AtRecord mark width sheet d (greatestDepth d) number offset) → GoodCell (leafIn (r .good .cells) number) × (length (leafIn (r .good .cells) number .root) ≡ d)
+leaf-in {number = number} r = let o = leaf-good (r .good) number (r .small) in (o .0, o .1 ∙ r .axes)
+
+-- so many bytes of a sheet behind the mark, as a slice
+abbrev pub codeHere : List ℕ → List ℕ → ℕ → ℕ → List ℕ
+codeHere mark sheet offset code = take (offset + length mark + code - (offset + length mark)) (drop (offset + length mark) sheet)
+
+module _ {mark : List ℕ} {width : ℕ} {sheet : List ℕ} {d offset depth : ℕ} (is : depth ≡ frontDepth (onward sheet (offset + length mark))) {a code : ℕ} (axes : a ≡ d) (code-is : code ≡ codeLength a depth) where
+  module _ {number : ℕ} (r : AtRecord mark width sheet d (greatestDepth d) number offset) where
+    it : Here (r .good) number offset
+    it = here (r .good) (r .small) (r .at)
+
+    size-is : code ≡ codeLength (r .good .dimension) (length (leafIn (r .good .cells) number .path))
+    size-is = code-is ∙ rw (axes, ← r .axes, record-depth r is) refl
+
+    end-inside : offset + length mark + code ≤ length sheet
+    end-inside = omega (arith, it .room, size-is)
+
+    here-is : codeHere mark sheet offset code ≡ codeFor (leafIn (r .good .cells) number)
+    here-is = ap (λ (n : ℕ). take n (drop (offset + length mark) sheet)) (cancel (offset + length mark) code ∙ size-is) ∙ it .code-is
+      where
+        cancel : (x y : ℕ) → x + y - x ≡ y
+        cancel x y = omega arith
+
+  pub record-holds : {b : Bool} → LeafHolds mark width sheet d (codeHere mark sheet offset code) b → {step : ℕ} → step ≡ length mark + (codeLength d depth + width * suc d) → RecordHolds mark width sheet d offset (record { holds = b; length = step })
+  record-holds {b} h is-step = record { leaf = λ r. subst (λ (l : List ℕ). LeafHolds mark width sheet d l b) (here-is r) h; next = λ r. record-next r is is-step }
+
+module _ {mark : List ℕ} {width : ℕ} {sheet : List ℕ} {d : ℕ} {index : List ℕ} {spread : Spread} {offset : ℕ} (ready : RecordReady mark width sheet d index spread offset)
+    {depth : ℕ} (is : depth ≡ frontDepth (onward sheet (offset + length mark))) {a code : ℕ} (axes : a ≡ d) (code-is : code ≡ codeLength a depth) where
+  pub record-end : offset + length mark + code ≤ length sheet
+  record-end = end-inside is axes code-is (ready .at)
+
+  pub record-end-fits : offset + length mark + code < 2 ^ 64
+  record-end-fits = omega (arith, record-end, ready .at .long)
+
+  pub record-leaf : LeafReady mark width sheet d index spread (codeHere mark sheet offset code) × (d ≤ 4)
+  record-leaf = (
+    record { indexed = ready .indexed; cell = leafIn (ready .at .good .cells) (ready .number); good = leaf-in (ready .at) .0; is = here-is is axes code-is (ready .at); axes = leaf-in (ready .at) .1 },
+    dimension d (record-known (ready .at)) .few,
+  )
+
 -- ---- all leaves of a sheet
 
 pub record SheetReady (mark : List ℕ) (width : ℕ) (sheet : List ℕ) (d records : ℕ) (index : List ℕ) (spread : Spread) : Type 0 where
@@ -89,72 +145,52 @@ pub record SheetHolds (mark : List ℕ) (width : ℕ) (sheet : List ℕ) (r : Bo
   pub fails : r ≡ false → {n : ℕ} (g : GoodSheet mark width sheet n) → Compatible (g .cells) → ⊥
 
 -- in the loop: the rule holds of all facets of the leaves before a number
-pub record Judging (mark : List ℕ) (width : ℕ) (sheet : List ℕ) (d records : ℕ) (index : List ℕ) (spread : Spread) (number offset : ℕ) : Type 0 where
+pub record Judging (mark : List ℕ) (width : ℕ) (sheet : List ℕ) (d records size : ℕ) (index : List ℕ) (spread : Spread) (number offset : ℕ) : Type 0 where
   pub ready : SheetReady mark width sheet d records index spread
   pub at : From (ready .good) number offset
   pub long : length sheet < 2 ^ 64
+  pub size-is : length index ≡ size
   pub held : (m : ℕ) → m < number → (i : ℕ) → i ≤ d → FacetIs mark width sheet (codeFor (leafIn (ready .good .cells) m)) i true
 
 module _ {mark : List ℕ} {width : ℕ} {sheet : List ℕ} {d records : ℕ} {index : List ℕ} {spread : Spread} where
-  pub judging-start : SheetReady mark width sheet d records index spread → length sheet < 2 ^ 64 → Judging mark width sheet d records index spread 0 0
-  judging-start r l = record { ready = r; at = from-start (r .good); long = l; held = λ m l. absurd (omega arith) }
+  pub judging-start : SheetReady mark width sheet d records index spread → length sheet < 2 ^ 64 → Judging mark width sheet d records (length index) index spread 0 0
+  judging-start r l = record { ready = r; at = from-start (r .good); long = l; size-is = refl; held = λ m l. absurd (omega arith) }
 
-  module _ {number offset : ℕ} (s : Judging mark width sheet d records index spread number offset) where
+  module _ {size number offset : ℕ} (s : Judging mark width sheet d records size index spread number offset) where
     module _ (l : number < records) where
-      abbrev pub judging-at : AtRecord mark width sheet d (greatestDepth d) number offset
-      judging-at = record { count = records; good = s .ready .good; axes = s .ready .axes; long = s .long; deepest-is = refl; small = omega (arith, s .ready .good .count); at = s .at }
+      abbrev at-record : AtRecord mark width sheet d (greatestDepth d) number offset
+      at-record = record { count = records; good = s .ready .good; axes = s .ready .axes; long = s .long; deepest-is = refl; small = omega (arith, s .ready .good .count); at = s .at }
 
-      pub judging-axes : d ≤ 4
-      judging-axes = dimension d (record-known judging-at) .few
+      pub judging-about : AboutReady mark width sheet d records index spread number
+      judging-about = record { indexed = s .ready .indexed; good = s .ready .good; small = l }
 
-      it : Here (s .ready .good) number offset
-      it = here (s .ready .good) (judging-at .small) (s .at)
-
-      leaf-is : GoodCell (leafIn (s .ready .good .cells) number) × (length (leafIn (s .ready .good .cells) number .root) ≡ d)
-      leaf-is = let o = leaf-good (s .ready .good) number (judging-at .small) in (o .0, o .1 ∙ s .ready .axes)
+      pub judging-record : {index′ : List ℕ} {spread′ : Spread} → Indexed mark width sheet d index′ spread′ → RecordReady mark width sheet d index′ spread′ offset
+      judging-record i = record { indexed = i; number = number; at = at-record }
 
       -- a leaf whose rule fails
-      broken : {code : List ℕ} → code ≡ codeFor (leafIn (s .ready .good .cells) number) → Broken mark width sheet d code → SheetHolds mark width sheet false
-      broken {code} e b = record { holds = λ z. absurd (subst T (sym z) tt); fails = none }
+      broken : Broken mark width sheet d (codeFor (leafIn (s .ready .good .cells) number)) → SheetHolds mark width sheet false
+      broken b = record { holds = λ z. absurd (subst T (sym z) tt); fails = none }
         where
           none : false ≡ false → {n : ℕ} (g : GoodSheet mark width sheet n) → Compatible (g .cells) → ⊥
-          none z g c = let f = b .fails .fails refl (s .ready .good) (leafIn (s .ready .good .cells) number) (leaf-is .0) e in
-              f .1 (subst Compatible (sym (same-cells (s .ready .good) g)) c .holds number (judging-at .small) (b .facet) (omega (arith, b .small, leaf-is .1)) (f .0))
+          none z g c = let o = leaf-in at-record in let f = b .fails .fails refl (s .ready .good) (leafIn (s .ready .good .cells) number) (o .0) refl in
+              f .1 (subst Compatible (sym (same-cells (s .ready .good) g)) c .holds number (at-record .small) (b .facet) (omega (arith, b .small, o .1)) (f .0))
 
-      module _ {depth : ℕ} (is : depth ≡ frontDepth (onward sheet (offset + length mark))) where
-        module _ {a code : ℕ} (axes : a ≡ d) (code-is : code ≡ codeLength a depth) where
-          size-is : code ≡ codeLength (s .ready .good .dimension) (length (leafIn (s .ready .good .cells) number .path))
-          size-is = code-is ∙ rw (axes, ← s .ready .axes, record-depth judging-at is) refl
+      module _ {r : Judged} (h : RecordHolds mark width sheet d offset r) where
+        pub judging-fails : not (r .holds) ≡ true → SheetHolds mark width sheet false
+        judging-fails e = broken (h .leaf at-record .fails (not-true (r .holds) e))
 
-          pub judging-end-code : offset + length mark + code ≤ length sheet
-          judging-end-code = omega (arith, it .room, size-is)
+        pub judging-fits : offset + r .length < 2 ^ 64
+        judging-fits = omega (arith, h .next at-record .inside, s .long)
 
-          abbrev pub codeHere : List ℕ
-          codeHere = take (offset + length mark + code - (offset + length mark)) (drop (offset + length mark) sheet)
+        pub judging-next : not (r .holds) ≡ false → {index′ : List ℕ} {spread′ : Spread} → Indexed mark width sheet d index′ spread′ → length index′ ≡ length index → Judging mark width sheet d records size index′ spread′ (number + 1) (offset + r .length)
+        judging-next e i l = rw (one-more number) (record { ready = record { indexed = i; good = s .ready .good; axes = s .ready .axes }; at = h .next at-record; long = s .long; size-is = l ∙ s .size-is; held = λ m o. go m o (ℕ-discrete m number) })
+          where
+            one-more : (k : ℕ) → k + 1 ≡ suc k
+            one-more k = omega arith
 
-          here-is : codeHere ≡ codeFor (leafIn (s .ready .good .cells) number)
-          here-is = ap (λ (n : ℕ). take n (drop (offset + length mark) sheet)) (cancel (offset + length mark) code ∙ size-is) ∙ it .code-is
-            where
-              cancel : (x y : ℕ) → x + y - x ≡ y
-              cancel x y = omega arith
-
-          pub judging-leaf : LeafReady mark width sheet d index spread codeHere
-          judging-leaf = record { indexed = s .ready .indexed; cell = leafIn (s .ready .good .cells) number; good = leaf-is .0; is = here-is; axes = leaf-is .1 }
-
-          module _ {b : Bool} (h : LeafHolds mark width sheet d codeHere b) where
-            pub judging-fails : not b ≡ true → SheetHolds mark width sheet false
-            judging-fails e = broken here-is (h .fails (not-true b e))
-
-            module _ (e : not b ≡ false) {step : ℕ} (is-step : step ≡ length mark + (codeLength d depth + width * suc d)) where
-              pub judging-next : Judging mark width sheet d records index spread (number + 1) (offset + step)
-              judging-next = rw (one-more number) (record { ready = s .ready; at = record-next judging-at is is-step; long = s .long; held = λ m o. go m o (ℕ-discrete m number) })
-                where
-                  one-more : (k : ℕ) → k + 1 ≡ suc k
-                  one-more k = omega arith
-
-                  go : (m : ℕ) → m < suc number → Dec (m ≡ number) → (i : ℕ) → i ≤ d → FacetIs mark width sheet (codeFor (leafIn (s .ready .good .cells) m)) i true
-                  go m o (yes q) i k = subst (λ (n : ℕ). FacetIs mark width sheet (codeFor (leafIn (s .ready .good .cells) n)) i true) (sym q) (subst (λ (l : List ℕ). FacetIs mark width sheet l i true) here-is (h .holds (not-false b e) i k))
-                  go m o (no q) i k = s .held m (omega arith) i k
+            go : (m : ℕ) → m < suc number → Dec (m ≡ number) → (i : ℕ) → i ≤ d → FacetIs mark width sheet (codeFor (leafIn (s .ready .good .cells) m)) i true
+            go m o (yes q) i k = subst (λ (n : ℕ). FacetIs mark width sheet (codeFor (leafIn (s .ready .good .cells) n)) i true) (sym q) (h .leaf at-record .holds (not-false (r .holds) e) i k)
+            go m o (no q) i k = s .held m (omega arith) i k
 
     pub judging-done : records ≤ number → SheetHolds mark width sheet true
     judging-done l = record { holds = all; fails = λ z. absurd (subst T z tt) }

@@ -7,7 +7,7 @@ ghost use Rattle.finding.specs.Opened.{Checked};
 ghost use Rattle.compatible.specs.Compatible.{yes-or-no, CompatibleIs};
 ghost use Rattle.compatible.specs.Nearness.{LeafKind, NearReady, NearIs};
 ghost use Rattle.compatible.specs.FacetLaws.{FacetReady, FacetIs};
-ghost use Rattle.compatible.specs.Walking.{LeafReady, LeafHolds, SheetReady, SheetHolds};
+ghost use Rattle.compatible.specs.Walking.{LeafReady, LeafHolds, RecordReady, RecordHolds, SheetReady, SheetHolds};
 use bisection::DONE;
 use dimension::Dim;
 use finding::Kind;
@@ -127,13 +127,39 @@ fn leaf_holds(
     true
 }
 
-// Whether it holds of each leaf.
+// What is said of a record: whether the rule holds of each facet of its leaf, and how many bytes it has.
+pub struct Judged {
+    pub holds: bool,
+    pub length: usize,
+}
+
+// The same of the leaf of the record at an offset.
+fn record_holds(
+    edition: Edition,
+    sheet: &[u8],
+    dimension: u8,
+    index: &[u64],
+    spread: Spread,
+    offset: usize,
+) -> Judged
+    requires { ⌜ RecordReady (markOf edition) (edition .width) (now sheet) dimension (now index) spread offset ⌝ }
+    ensures { λ r. ⌜ RecordHolds (markOf edition) (edition .width) (now (sheet .entry)) dimension offset r ⌝ }
+{
+    let start = offset + sheets::MARK_LENGTH;
+    let depth = codes::code_depth(&sheet[start..]);
+    let end = start + Dim::checked(dimension).code_length(depth);
+    let holds = leaf_holds(edition, sheet, dimension, index, spread, &sheet[start..end]);
+    let length = finding::record_length(edition, dimension, depth);
+    Judged { holds, length }
+}
+
+// Whether it holds of each leaf. The index is kept about the leaf at hand.
 fn all_hold(
     edition: Edition,
     sheet: &[u8],
     dimension: u8,
     records: usize,
-    index: &[u64],
+    index: &mut [u64],
     spread: Spread,
 ) -> bool
     requires { ⌜ SheetReady (markOf edition) (edition .width) (now sheet) dimension records (now index) spread ⌝ }
@@ -141,14 +167,14 @@ fn all_hold(
 {
     let mut number: usize = 0;
     let mut offset: usize = 0;
+    let mut about = spread;
     while number < records {
-        let start = offset + sheets::MARK_LENGTH;
-        let depth = codes::code_depth(&sheet[start..]);
-        let end = start + Dim::checked(dimension).code_length(depth);
-        if !leaf_holds(edition, sheet, dimension, index, spread, &sheet[start..end]) {
+        about = finding::index_about(edition, sheet, dimension, records, index, about, number);
+        let judged = record_holds(edition, sheet, dimension, index, about, offset);
+        if !judged.holds {
             return false;
         }
-        offset += finding::record_length(edition, dimension, depth);
+        offset += judged.length;
         number += 1;
     }
     true
@@ -162,7 +188,7 @@ fn leaves_compatible(sheet: &[u8], dimension: u8, records: usize) -> bool
     let mut index = [0u64; INDEX_ROOM];
     let edition = sheets::first_edition();
     let spread = finding::index_of(edition, sheet, dimension, records, &mut index);
-    all_hold(edition, sheet, dimension, records, &index, spread)
+    all_hold(edition, sheet, dimension, records, &mut index, spread)
 }
 
 // The compatibility test.

@@ -15,6 +15,7 @@ use Rattle.bisection.specs.Cells.{Point, Cell, vertex, pointBytes, cellBytes}
 use Rattle.bisection.specs.Codes.{axis}
 use Rattle.bisection.specs.Theorems.Entries.{Signed, Stands, stands}
 use Rattle.bisection.specs.Theorems.Drawn.{Sized, along}
+use Rattle.bisection.specs.Theorems.Lists.{point-size}
 use Rattle.corners.specs.declared.Line.{Line}
 use Rattle.corners.specs.Lines.{Fair, fair-below, onLine}
 
@@ -122,11 +123,6 @@ module _ {d a : ℕ} {line : Line} {j : ℕ} {before l : List ℕ} (f : Filling 
   fill-end h = subst (λ (m : ℕ). Column d a (onLine line) m before l) (omega (arith, f .few)) (f .column)
 
 -- the bytes of a point and of a cell, place by place
-pub point-size : (v : Point) → length (pointBytes v) ≡ 2 * length v
-unfolding pointBytes
-point-size [] = refl
-point-size (x ∷ v) = omega (arith, point-size v)
-
 twice-suc : (a : ℕ) → 2 * suc a ≡ suc (suc (2 * a))
 twice-suc a = omega arith
 

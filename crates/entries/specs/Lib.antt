@@ -2,8 +2,11 @@
 -- Signed entries as numbers, and the bits of masks.
 pub mod Signs
 pub mod Masks
+-- Bytes as one word.
+pub mod Words
 -- The walks that test a code; the permutation by its marks.
 pub mod Walks
+pub mod Fitting
 pub mod Marks
 -- What a check that passes tells.
 pub mod Passed

@@ -66,56 +66,6 @@ place-no-later i n = go (decLt i n)
     go (yes h) = omega (arith, place-under i n h)
     go (no h) = omega (arith, place-past i n (omega arith))
 
--- the orthants or-ed: those before place i of a walk that begins again past the last
-pub record Fitting (d n : ℕ) (os : List ℕ) (i any : ℕ) : Type 0 where
-  pub every : any < 2 ^ d → (j : ℕ) → j < i → j < n → getD os j 0 < 2 ^ d
-  pub fits : ((j : ℕ) → j < n → getD os j 0 < 2 ^ d) → any < 2 ^ d
-
-pub fitting-none : (d n : ℕ) (os : List ℕ) → Fitting d n os 0 0
-fitting-none d n os = record { every = λ h j l m. absurd (omega arith); fits = λ f. pow-pos d }
-
-module _ {d n : ℕ} {os : List ℕ} {i any : ℕ} (t : Fitting d n os i any) where
-  pub fitting-next : 0 < n → (o : ℕ) → o ≡ getD os (placeIn i n) 0 → Fitting d n os (i + 1) (bitOr any o)
-  fitting-next p o e = record {
-    every = λ h j l m. go h j l m (decLt j i);
-    fits = λ f. or-lt d any o (t .fits f) (rw e (f (placeIn i n) (place-within i n p)));
-  }
-    where
-      over-l : any ≤ bitOr any o
-      over-l = omega (arith, or-add-and any o, and-le-r any o)
-
-      over-r : o ≤ bitOr any o
-      over-r = omega (arith, or-add-and any o, and-le-l any o)
-
-      go : bitOr any o < 2 ^ d → (j : ℕ) → j < i + 1 → j < n → Dec (j < i) → getD os j 0 < 2 ^ d
-      go h j l m (yes q) = t .every (omega (arith, over-l)) j q m
-      go h j l m (no q) = omega (arith, over-r, h, e, ap (λ (x : ℕ). getD os x 0) here)
-        where
-          here : placeIn i n ≡ j
-          here = place-under i n (omega arith) ∙ omega arith
-
-  pub fitting-all : n ≡ length os → n ≤ i → eqb (any / 2 ^ d) 0 ≡ orthantsFit d os
-  unfolding orthantsFit
-  fitting-all e h = go (decLt any (2 ^ d))
-    where
-      test : ℕ → Bool
-      test j = ltb (getD os j 0) (2 ^ d)
-
-      go : Dec (any < 2 ^ d) → eqb (any / 2 ^ d) 0 ≡ each (length os) test
-      go (yes l) = eq-eqb (any / 2 ^ d) 0 (div-eq-of-lt l) ∙ sym (at-each (length os) test (λ j m. lt-ltb (getD os j 0) (2 ^ d) (t .every l j (omega arith) (omega arith))))
-      go (no l) = ne-eqb (any / 2 ^ d) 0 (λ q. l (low q)) ∙ sym (none (each (length os) test) refl)
-        where
-          low : any / 2 ^ d ≡ 0 → any < 2 ^ d
-          low q = omega (arith, div-add-mod' any (2 ^ d), ap (λ (u : ℕ). u * 2 ^ d) q, mod-lt any (pow-pos d))
-
-          none : (t' : Bool) → each (length os) test ≡ t' → t' ≡ false
-          none false q = refl
-          none true q = absurd (l (t .fits (λ j m. ltb-true (getD os j 0) (2 ^ d) (each-at (length os) test q j (omega arith)))))
-
-pub fitting-empty : (d : ℕ) (os : List ℕ) → length os ≡ 0 → true ≡ orthantsFit d os
-unfolding orthantsFit each
-fitting-empty d os e = rw e refl
-
 -- the byte of the box's own signs
 abbrev pub ownByte : List ℕ → ℕ
 ownByte os = getD os (length os - 1) 0

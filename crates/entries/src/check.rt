@@ -1,14 +1,16 @@
 // The tests of a code's body: its permutation, its orthant bytes, its signs. Each is a walk over lent bytes. And what is read off
 // a code that passes.
 ghost use mathlib.Core.Path.{_≡_};
-ghost use Prim.Native.Nat.{_+_, _-_, _≤_, _<_};
+ghost use Prim.Native.Nat.{_+_, _-_, _^_, min, _≤_, _<_};
 ghost use lib.ListN.{length, drop};
 ghost use mathlib.Core.Bool.{cond};
 ghost use lib.Dec.{ltb};
 ghost use Rattle.dimension.specs.Sizes.{axesOf, halvings, codeLength, splitPlace};
 ghost use Rattle.bisection.specs.Codes.{axis, minus, high, dimensionOf, depthOf};
 ghost use Rattle.bisection.specs.Refusals.{done, codeRefusal, permutes, orthantsFit, sameSign, isRoot, isPath};
+ghost use Rattle.entries.specs.Fitting.{OrthantsFrom};
 ghost use Rattle.entries.specs.Walks.{ownByte, signsBy, AxesWithin};
+use crate::words;
 use dimension::Dim;
 
 // The dimension of a code that passes.
@@ -70,24 +72,48 @@ pub fn permuted(s: &[u8], at: usize, d: usize) -> bool
     seen == (1 << d) - 1
 }
 
-// No orthant byte of a code of dimension d has a bit at d or above: the bytes or-ed have none. There are no more than halvings.
+// The lower of two numbers.
+pub fn lower(a: usize, b: usize) -> usize
+    ensures { λ r. ⌜ r ≡ min a b ⌝ }
+{
+    if a < b {
+        return a;
+    }
+    b
+}
+
+// Four orthants of a code as a word, from number i on or the last four; where there are fewer, they are all there, with zeros behind.
+// They begin at place `first`.
+fn orthants_from(code: &[u8], first: usize, i: usize) -> u32
+    requires { ⌜ (4 ≤ length (now code)) × (first < length (now code)) × (first + i < 2 ^ 64) ⌝ }
+    ensures { λ r. ⌜ OrthantsFrom (drop first (now (code .entry))) i r ⌝ }
+{
+    let n = code.len();
+    let w = words::word_at(code, lower(first + i, n - 4));
+    w >> (8 * (4 - lower(n - first, 4)))
+}
+
+// No orthant byte of a code of dimension d has a bit at d or above: the bytes or-ed have none, four at a time. There are no more than
+// halvings.
 pub fn orthants_fit(code: &[u8], d: usize) -> bool
-    requires { ⌜ (d < 8) × (2 + d ≤ length (now code)) × (length (now code) ≤ 2 + d + halvings) ⌝ }
+    requires { ⌜ (2 ≤ d) × (d < 8) × (2 + d ≤ length (now code)) × (length (now code) ≤ 2 + d + halvings) ⌝ }
     ensures { λ r. ⌜ r ≡ orthantsFit d (drop (2 + d) (now (code .entry))) ⌝ }
 {
     let first = 2 + d;
-    let boxes = code.len() - first;
-    if boxes == 0 {
+    if code.len() == first {
         return true;
     }
-    let mut any: u8 = 0;
+    let mut any: u32 = 0;
     let mut i: usize = 0;
     while i < Dim::HALVINGS {
-        let j = place_in(i, boxes);
-        any = any | code[first + j];
-        i += 1;
+        any = any | orthants_from(code, first, i);
+        i += 4;
     }
-    any >> d == 0
+    let joined = words::byte(any, 0)
+        | words::byte(any, 8)
+        | words::byte(any, 16)
+        | words::byte(any, 24);
+    joined >> d == 0
 }
 
 // The last orthant byte of a code of dimension d, 0 where it has none: high where the box's own sign is minus.

@@ -1,5 +1,6 @@
 // Signed entries and orthant bytes. An entry's byte is its axis, plus 128 for minus; it is an i8 where it is negated.
 pub mod check; // check.rt: the walks that test a body
+pub mod words; // words.rt: bytes as one word
 
 ghost use mathlib.Core.Path.{_≡_};
 ghost use Prim.Native.Nat.{_+_, _-_, _*_, _^_, _≤_, _<_};

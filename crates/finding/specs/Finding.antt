@@ -13,6 +13,7 @@ use Rattle.sheets.specs.Sheets.{GoodSheet, leafIn}
 use Rattle.sheets.specs.Theorems.Listing.{GoodCell}
 use Rattle.finding.specs.declared.Ahead.{Ahead}
 use Rattle.finding.specs.declared.Entry.{Entry}
+use Rattle.finding.specs.declared.Run.{Run}
 use Rattle.finding.specs.declared.Spread.{Spread}
 use Rattle.finding.specs.declared.Found.{Found}
 use Rattle.finding.specs.declared.Kind.{Kind}
@@ -58,14 +59,24 @@ pub record EntryIs (d : ℕ) {mark : List ℕ} {width : ℕ} {sheet : List ℕ} 
   pub place-is : distance (2 ^ greatestDepth d) (e .place) ≡ sizesTo (greatestDepth d) (g .cells) number
   pub part-small : e .place .part < 2 ^ greatestDepth d
 
--- an index belongs to a sheet of d axes: entry e is that of record number e * stride
-pub record Indexed (mark : List ℕ) (width : ℕ) (sheet : List ℕ) (d : ℕ) (index : List ℕ) (r : Spread) : Type 0 where
+-- so many entries belong to a sheet of d axes: the first to record number `first`, each next to one a stride behind
+pub record RunIs (mark : List ℕ) (width : ℕ) (sheet : List ℕ) (d : ℕ) (index : List ℕ) (r : Run) : Type 0 where
   pub count : ℕ
   pub good : GoodSheet mark width sheet count
   pub axes : good .dimension ≡ d
   pub some : 0 < r .entries
-  pub room : 3 * r .entries ≤ length index
-  pub entry : (e : ℕ) → e < r .entries → EntryIs d good (e * r .stride) (entryIn index e)
+  pub room : 3 * (r .at + r .entries) ≤ length index
+  pub goes : 1 ≤ r .stride
+  pub entry : (e : ℕ) → e < r .entries → EntryIs d good (r .first + e * r .stride) (entryIn index (r .at + e))
+
+-- an index belongs to a sheet of d axes: the coarse entries begin with the first record and leave no more than a stride behind the last
+-- one, and the fine ones stand behind them
+pub record Indexed (mark : List ℕ) (width : ℕ) (sheet : List ℕ) (d : ℕ) (index : List ℕ) (r : Spread) : Type 0 where
+  pub coarse : RunIs mark width sheet d index (r .coarse)
+  pub front : r .coarse .first ≡ 0
+  pub all : {n : ℕ} → GoodSheet mark width sheet n → n ≤ r .coarse .entries * r .coarse .stride
+  pub fine : RunIs mark width sheet d index (r .fine)
+  pub apart : r .coarse .at + r .coarse .entries ≤ r .fine .at
 
 -- an index that belongs to the sheet, and a place before the end of the line
 pub record FindReady (mark : List ℕ) (width : ℕ) (sheet : List ℕ) (d : ℕ) (index : List ℕ) (spread : Spread) (p : Position) : Type 0 where

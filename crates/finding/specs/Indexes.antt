@@ -15,11 +15,12 @@ use Rattle.bisection.specs.Roots.{roots}
 use Rattle.codes.specs.Fronts.{frontDepth}
 use Rattle.positions.specs.RootNumbers.{roots-few}
 use Rattle.sheets.specs.Sheets.{GoodSheet}
-use Rattle.sheets.specs.Theorems.Good.{good-tiles, good-some}
+use Rattle.sheets.specs.Theorems.Good.{good-tiles, good-some, same-count}
 use Rattle.finding.specs.declared.Ahead.{Ahead}
 use Rattle.finding.specs.declared.Entry.{Entry}
+use Rattle.finding.specs.declared.Run.{Run}
 use Rattle.finding.specs.declared.Spread.{Spread}
-use Rattle.finding.specs.Finding.{distance, entryIn, EntryIs, Indexed}
+use Rattle.finding.specs.Finding.{distance, entryIn, EntryIs, RunIs, Indexed}
 use Rattle.finding.specs.Sizes.{sizesTo, sizes-none, sizes-next, sizes-rise, tiles-total}
 use Rattle.finding.specs.Walk.{From, from-start}
 use Rattle.finding.specs.Distances.{aheadBy, JoinReady, JoinedIs}
@@ -141,95 +142,272 @@ module _ {mark : List ℕ} {width : ℕ} {sheet : List ℕ} {d : ℕ} {from : En
     pub walk-end : to ≤ n → WalkedIs mark width sheet d from number to (record { offset = offset; place = place })
     walk-end h = subst (λ (k : ℕ). WalkedIs mark width sheet d from number k (record { offset = offset; place = place })) (omega (arith, w .order)) (w .walked)
 
--- a sheet to be indexed, and room for an entry
+-- ---- entries are filled, one behind the other
+
+-- an entry, a record behind it to stop at, and room for the entries up to there
+pub record FillReady (mark : List ℕ) (width : ℕ) (sheet : List ℕ) (d : ℕ) (index : List ℕ) (at : ℕ) (from : Entry) (first stride to : ℕ) : Type 0 where
+  pub count : ℕ
+  pub good : GoodSheet mark width sheet count
+  pub axes : good .dimension ≡ d
+  pub entry : EntryIs d good first from
+  pub goes : 1 ≤ stride
+  pub some : first < to
+  pub last : to ≤ count
+  pub room : ℕ
+  pub room-is : 3 * (at + room) ≤ length index
+  pub fits : to ≤ first + room * stride
+
+-- the entries belong to their records, and the last one's is less than a stride before the end; those before number `at` stay
+pub record FilledIs (mark : List ℕ) (width : ℕ) (sheet : List ℕ) (d : ℕ) (before : List ℕ) (at first stride to : ℕ) (after : List ℕ) (r : Run) : Type 0 where
+  pub size : length after ≡ length before
+  pub kept : (i : ℕ) → i < at → entryIn after i ≡ entryIn before i
+  pub at-is : r .at ≡ at
+  pub first-is : r .first ≡ first
+  pub stride-is : r .stride ≡ stride
+  pub all : to ≤ first + r .entries * stride
+  pub none-more : first + r .entries * stride < to + stride
+  pub run : RunIs mark width sheet d after r
+
+-- in the loop: the entries so far, and the next one
+pub record Filling (mark : List ℕ) (width : ℕ) (sheet : List ℕ) (d : ℕ) (before : List ℕ) (at first stride to entries number : ℕ) (index : List ℕ) (entry : Entry) : Type 0 where
+  pub from : Entry
+  pub ready : FillReady mark width sheet d before at from first stride to
+  pub long : length before < 2 ^ 64
+  pub size : length index ≡ length before
+  pub kept : (i : ℕ) → i < at → entryIn index i ≡ entryIn before i
+  pub number-is : number ≡ first + entries * stride
+  pub small : number < to
+  pub written : (i : ℕ) → i < entries → EntryIs d (ready .good) (first + i * stride) (entryIn index (at + i))
+  pub next : EntryIs d (ready .good) number entry
+
+abbrev pub runBy : ℕ → ℕ → ℕ → ℕ → Run
+runBy at entries first stride = record { at = at; entries = entries; first = first; stride = stride }
+
+module _ {mark : List ℕ} {width : ℕ} {sheet : List ℕ} {d : ℕ} {before : List ℕ} {at first stride to : ℕ} where
+  pub fill-start : {from : Entry} → FillReady mark width sheet d before at from first stride to → length before < 2 ^ 64 → Filling mark width sheet d before at first stride to 0 first before from
+  fill-start {from} r l = record { from = from; ready = r; long = l; size = refl; kept = λ i l. refl; number-is = omega arith; small = r .some; written = λ i l. absurd (omega arith); next = r .entry }
+
+  module _ {entries number : ℕ} {index : List ℕ} {entry : Entry} (s : Filling mark width sheet d before at first stride to entries number index entry) where
+    fill-few : entries < s .ready .room
+    fill-few = lt-of-mul-lt-mul-right stride {m = entries} {n = s .ready .room} (omega (arith, s .number-is, s .small, s .ready .fits))
+
+    pub fill-put : 3 * (at + entries) + 3 ≤ length index
+    fill-put = omega (arith, fill-few, s .ready .room-is, s .size)
+
+    pub fill-at : at + entries < 2 ^ 64
+    fill-at = omega (arith, fill-put, s .long, s .size)
+
+    pub fill-count : entries + 1 < 2 ^ 64
+    fill-count = omega (arith, fill-put, s .long, s .size)
+
+    pub fill-left : number ≤ to
+    fill-left = omega (arith, s .small)
+
+    module _ (more : stride < to - number) where
+      pub fill-walk : WalkReady mark width sheet d entry number (number + stride)
+      fill-walk = record { count = s .ready .count; good = s .ready .good; axes = s .ready .axes; entry = s .next; order = omega arith; last = omega (arith, s .ready .last, s .ready .good .count) }
+
+      pub fill-less : to - (number + stride) < to - number
+      fill-less = omega (arith, s .ready .goes)
+
+    module _ {after : List ℕ} (p : PutIs index (at + entries) entry after) where
+      -- the entries with the new one
+      written-more : (i : ℕ) → i < entries + 1 → EntryIs d (s .ready .good) (first + i * stride) (entryIn after (at + i))
+      written-more i l = go (decLt i entries)
+        where
+          go : Dec (i < entries) → EntryIs d (s .ready .good) (first + i * stride) (entryIn after (at + i))
+          go (yes q) = rw (p .others (at + i) (omega arith)) (s .written i q)
+          go (no q) = let e : i ≡ entries = omega arith in rw (e, p .here, ← s .number-is) (s .next)
+
+      kept-more : (i : ℕ) → i < at → entryIn after i ≡ entryIn before i
+      kept-more i l = p .others i (omega arith) ∙ s .kept i l
+
+      one-stride-more : (entries + 1) * stride ≡ entries * stride + stride
+      one-stride-more = rw (add-mul entries 1 stride) (omega arith)
+
+      pub fill-end : to - number ≤ stride → FilledIs mark width sheet d before at first stride to after (runBy at (entries + 1) first stride)
+      fill-end h = record {
+        size = p .size ∙ s .size;
+        kept = kept-more;
+        at-is = refl;
+        first-is = refl;
+        stride-is = refl;
+        all = omega (arith, s .number-is, one-stride-more);
+        none-more = omega (arith, s .number-is, s .small, one-stride-more);
+        run = record { count = s .ready .count; good = s .ready .good; axes = s .ready .axes; some = omega arith; room = omega (arith, fill-put, p .size); goes = s .ready .goes; entry = written-more };
+      }
+
+      pub fill-on : {entry′ : Entry} → stride < to - number → WalkedIs mark width sheet d entry number (number + stride) entry′ → Filling mark width sheet d before at first stride to (entries + 1) (number + stride) after entry′
+      fill-on more w = record {
+        from = s .from;
+        ready = s .ready;
+        long = s .long;
+        size = p .size ∙ s .size;
+        kept = kept-more;
+        number-is = omega (arith, s .number-is, one-stride-more);
+        small = omega arith;
+        written = written-more;
+        next = w .reaches (s .ready .good) (s .ready .axes) (omega (arith, s .ready .last, s .ready .good .count)) (s .next);
+      }
+
+-- ---- the fine entries
+
+-- an entry whose record is no later than another
+pub record BeforeIs (number stride r : ℕ) : Type 0 where
+  pub before : r * stride ≤ number
+
+pub before-less : {number back stride : ℕ} → 1 ≤ stride → back ≤ number → BeforeIs number stride ((number - back) / stride)
+before-less {number} {back} {stride} h l = record { before = omega (arith, div-add-mod' (number - back) stride) }
+
+-- the end of so many records, or of all
+pub record EndIs (first room records r : ℕ) : Type 0 where
+  pub some : first < r
+  pub last : r ≤ records
+  pub fits : r ≤ first + room
+
+-- the coarse entries of a sheet, and room behind them for fine ones about a record
+pub record DrawReady (mark : List ℕ) (width : ℕ) (sheet : List ℕ) (d records : ℕ) (index : List ℕ) (coarse : Run) (at number : ℕ) : Type 0 where
+  pub good : GoodSheet mark width sheet records
+  pub run : RunIs mark width sheet d index coarse
+  pub front : coarse .first ≡ 0
+  pub all : {n : ℕ} → GoodSheet mark width sheet n → n ≤ coarse .entries * coarse .stride
+  pub apart : coarse .at + coarse .entries ≤ at
+  pub room : 3 * at + 3 ≤ length index
+  pub small : number < records
+
+-- entries that stay belong to their records as before
+run-kept : {mark : List ℕ} {width : ℕ} {sheet : List ℕ} {d : ℕ} {before after : List ℕ} {r : Run} → RunIs mark width sheet d before r → length after ≡ length before → ((i : ℕ) → i < r .at + r .entries → entryIn after i ≡ entryIn before i) → RunIs mark width sheet d after r
+run-kept {r = r} i e kept = record { count = i .count; good = i .good; axes = i .axes; some = i .some; room = omega (arith, i .room, e); goes = i .goes; entry = λ n l. rw (kept (r .at + n) (omega arith)) (i .entry n l) }
+
+module _ {mark : List ℕ} {width : ℕ} {sheet : List ℕ} {d records : ℕ} {index : List ℕ} {coarse : Run} {at number : ℕ} (r : DrawReady mark width sheet d records index coarse at number) where
+  pub draw-at : at ≤ length index / 3
+  draw-at = omega (arith, r .room, div-add-mod' (length index) 3, mod-lt (length index) {m = 3} (omega arith))
+
+  pub draw-goes : 1 ≤ coarse .stride
+  draw-goes = r .run .goes
+
+  module _ {e : ℕ} (b : BeforeIs number (coarse .stride) e) where
+    draw-few : e < coarse .entries
+    draw-few = lt-of-mul-lt-mul-right (coarse .stride) {m = e} {n = coarse .entries} (omega (arith, b .before, r .small, r .all (r .good)))
+
+    pub draw-entry : 3 * (coarse .at + e) + 3 ≤ length index
+    draw-entry = omega (arith, draw-few, r .run .room)
+
+    pub draw-number : length index < 2 ^ 64 → coarse .at + e < 2 ^ 64
+    draw-number l = omega (arith, draw-entry)
+
+    pub draw-first : number < 2 ^ 64 → e * coarse .stride < 2 ^ 64
+    draw-first l = omega (arith, b .before)
+
+    pub draw-end : (1 ≤ length index / 3 - at) × (e * coarse .stride < records)
+    draw-end = (omega (arith, r .room, div-add-mod' (length index) 3, mod-lt (length index) {m = 3} (omega arith)), omega (arith, b .before, r .small))
+
+    module _ {entry : Entry} (is : entry ≡ entryIn index (coarse .at + e)) {to : ℕ} (end : EndIs (e * coarse .stride) (length index / 3 - at) records to) where
+      pub draw-fill : FillReady mark width sheet d index at entry (e * coarse .stride) 1 to
+      draw-fill = record {
+        count = r .run .count;
+        good = r .run .good;
+        axes = r .run .axes;
+        entry = rw is (subst (λ (n : ℕ). EntryIs d (r .run .good) n (entryIn index (coarse .at + e))) (omega (arith, r .front)) (r .run .entry e draw-few));
+        goes = omega arith;
+        some = end .some;
+        last = omega (arith, end .last, same-count (r .good) (r .run .good));
+        room = length index / 3 - at;
+        room-is = omega (arith, draw-at, div-add-mod' (length index) 3);
+        fits = omega (arith, end .fits);
+      }
+
+      pub draw-is : {after : List ℕ} {fine : Run} → FilledIs mark width sheet d index at (e * coarse .stride) 1 to after fine → Indexed mark width sheet d after (record { coarse = coarse; fine = fine })
+      draw-is f = record {
+        coarse = run-kept (r .run) (f .size) (λ i l. f .kept i (omega (arith, r .apart)));
+        front = r .front;
+        all = r .all;
+        fine = f .run;
+        apart = omega (arith, r .apart, f .at-is);
+      }
+
+-- ---- the whole index
+
+-- a sheet to be indexed, and room for ten entries
 pub record IndexReady (mark : List ℕ) (width : ℕ) (sheet : List ℕ) (d records : ℕ) (index : List ℕ) : Type 0 where
   pub good : GoodSheet mark width sheet records
   pub axes : good .dimension ≡ d
-  pub some : 3 ≤ length index
+  pub some : 30 ≤ length index
 
--- in the loop: the entries so far, and the next one
-pub record Indexing (mark : List ℕ) (width : ℕ) (sheet : List ℕ) (d records size room stride entries number : ℕ) (index : List ℕ) (entry : Entry) : Type 0 where
-  pub good : GoodSheet mark width sheet records
-  pub axes : good .dimension ≡ d
-  pub size-is : length index ≡ size
-  pub room-is : 3 * room ≤ size
-  pub fits : records ≤ room * stride
-  pub goes : 1 ≤ stride
-  pub number-is : number ≡ entries * stride
-  pub small : number < records
-  pub written : (i : ℕ) → i < entries → EntryIs d good (i * stride) (entryIn index i)
-  pub next : EntryIs d good number entry
+module _ {mark : List ℕ} {width : ℕ} {sheet : List ℕ} {d records : ℕ} {index : List ℕ} (r : IndexReady mark width sheet d records index) where
+  abbrev share : ℕ
+  share = length index / 3 - length index / 3 / 10
 
-module _ {mark : List ℕ} {width : ℕ} {sheet : List ℕ} {d records : ℕ} where
-  module _ {index : List ℕ} (r : IndexReady mark width sheet d records index) where
-    pub index-records : 1 ≤ records
-    index-records = omega (arith, good-some (r .good), r .good .count)
+  room-is : 3 * (length index / 3) ≤ length index
+  room-is = omega (arith, div-add-mod' (length index) 3)
 
-    pub index-room : 1 ≤ length index / 3
-    index-room = omega (arith, r .some, div-add-mod' (length index) 3, mod-lt (length index) {m = 3} (omega arith))
+  ten : 10 ≤ length index / 3
+  ten = omega (arith, r .some, div-add-mod' (length index) 3, mod-lt (length index) {m = 3} (omega arith))
 
-    pub index-stride : (records - 1) / (length index / 3) + 1 ≤ records
-    index-stride = omega (arith, div-le-self (records - 1) (length index / 3), index-records)
+  share-less : share < length index / 3
+  share-less = omega (arith, ten, div-add-mod' (length index / 3) 10, mod-lt (length index / 3) {m = 10} (omega arith))
 
-    pub index-start : Indexing mark width sheet d records (length index) (length index / 3) ((records - 1) / (length index / 3) + 1) 0 0 index (entryBy 0 0 0)
-    index-start = record {
-      good = r .good;
-      axes = r .axes;
-      size-is = refl;
-      room-is = omega (arith, div-add-mod' (length index) 3);
-      fits = enough (length index / 3) index-room;
-      goes = omega arith;
-      number-is = omega arith;
-      small = index-records;
-      written = λ i l. absurd (omega arith);
-      next = record { at = from-start (r .good); place-is = omega (arith, sizes-none (greatestDepth d) (r .good .cells)); part-small = pow-pos (greatestDepth d) };
-    }
-      where
-        enough : (room : ℕ) → 1 ≤ room → records ≤ room * ((records - 1) / room + 1)
-        enough room h = rw (mul-comm room ((records - 1) / room + 1), add-mul ((records - 1) / room) 1 room) (omega (arith, div-add-mod' (records - 1) room, mod-lt (records - 1) h))
+  pub index-share : length index / 3 / 10 ≤ length index / 3
+  index-share = div-le-self (length index / 3) 10
 
-  module _ {size room stride entries number : ℕ} {index : List ℕ} {entry : Entry} (s : Indexing mark width sheet d records size room stride entries number index entry) where
-    index-few : entries < room
-    index-few = lt-of-mul-lt-mul-right stride {m = entries} {n = room} (omega (arith, s .number-is, s .small, s .fits))
+  pub index-records : 1 ≤ records
+  index-records = omega (arith, good-some (r .good), r .good .count)
 
-    pub index-put : 3 * entries + 3 ≤ length index
-    index-put = omega (arith, index-few, s .room-is, s .size-is)
+  pub index-some : 1 ≤ share
+  index-some = omega (arith, ten, div-add-mod' (length index / 3) 10)
 
-    pub index-count : entries + 1 ≤ length index
-    index-count = omega (arith, index-put)
+  pub index-stride : records < 2 ^ 64 → (records - 1) / share + 1 < 2 ^ 64
+  index-stride l = omega (arith, div-le-self (records - 1) share, index-records)
 
-    pub index-left : number ≤ records
-    index-left = omega (arith, s .small)
+  enough : (room : ℕ) → 1 ≤ room → records ≤ room * ((records - 1) / room + 1)
+  enough room h = rw (mul-comm room ((records - 1) / room + 1), add-mul ((records - 1) / room) 1 room) (omega (arith, div-add-mod' (records - 1) room, mod-lt (records - 1) h))
 
-    module _ (more : stride < records - number) where
-      pub index-walk : WalkReady mark width sheet d entry number (number + stride)
-      index-walk = record { count = records; good = s .good; axes = s .axes; entry = s .next; order = omega arith; last = omega (arith, s .good .count) }
+  pub index-fill : FillReady mark width sheet d index 0 (entryBy 0 0 0) 0 ((records - 1) / share + 1) records
+  index-fill = record {
+    count = records;
+    good = r .good;
+    axes = r .axes;
+    entry = record { at = from-start (r .good); place-is = omega (arith, sizes-none (greatestDepth d) (r .good .cells)); part-small = pow-pos (greatestDepth d) };
+    goes = omega arith;
+    some = index-records;
+    last = omega arith;
+    room = share;
+    room-is = omega (arith, room-is, share-less);
+    fits = omega (arith, enough share index-some);
+  }
 
-      pub index-less : records - (number + stride) < records - number
-      index-less = omega (arith, s .goes)
-
-    module _ {after : List ℕ} (p : PutIs index entries entry after) where
-      -- the entries with the new one
-      written-more : (i : ℕ) → i < entries + 1 → EntryIs d (s .good) (i * stride) (entryIn after i)
-      written-more i l = go (decLt i entries)
+  pub index-draw : {after : List ℕ} {coarse : Run} → FilledIs mark width sheet d index 0 0 ((records - 1) / share + 1) records after coarse → DrawReady mark width sheet d records after coarse share 0
+  index-draw {after} {coarse} f = record {
+    good = r .good;
+    run = f .run;
+    front = f .first-is;
+    all = λ g. rw (f .stride-is) (omega (arith, f .all, same-count (r .good) g));
+    apart = omega (arith, f .at-is, few);
+    room = omega (arith, room-is, share-less, f .size);
+    small = index-records;
+  }
+    where
+      few : coarse .entries ≤ share
+      few = go (decLt share (coarse .entries))
         where
-          go : Dec (i < entries) → EntryIs d (s .good) (i * stride) (entryIn after i)
-          go (yes q) = rw (p .others i q) (s .written i q)
-          go (no q) = let e : i ≡ entries = omega arith in rw (e, p .here, ← s .number-is) (s .next)
+          go : Dec (share < coarse .entries) → coarse .entries ≤ share
+          go (no l) = omega arith
+          go (yes l) = absurd (omega (arith, f .none-more, enough share index-some, add-mul share 1 ((records - 1) / share + 1), mul-le-mul-right {m = share + 1} {n = coarse .entries} ((records - 1) / share + 1) (omega arith)))
 
-      pub index-end : Indexed mark width sheet d after (record { entries = entries + 1; stride = stride })
-      index-end = record { count = records; good = s .good; axes = s .axes; some = omega arith; room = omega (arith, index-put, p .size); entry = written-more }
+-- an index, and a record of its sheet
+pub record AboutReady (mark : List ℕ) (width : ℕ) (sheet : List ℕ) (d records : ℕ) (index : List ℕ) (spread : Spread) (number : ℕ) : Type 0 where
+  pub indexed : Indexed mark width sheet d index spread
+  pub good : GoodSheet mark width sheet records
+  pub small : number < records
 
-      pub index-on : {entry′ : Entry} → stride < records - number → WalkedIs mark width sheet d entry number (number + stride) entry′ → Indexing mark width sheet d records size room stride (entries + 1) (number + stride) after entry′
-      index-on more w = record {
-        good = s .good;
-        axes = s .axes;
-        size-is = p .size ∙ s .size-is;
-        room-is = s .room-is;
-        fits = s .fits;
-        goes = s .goes;
-        number-is = rw (add-mul entries 1 stride) (omega (arith, s .number-is));
-        small = omega arith;
-        written = written-more;
-        next = w .reaches (s .good) (s .axes) (omega (arith, s .good .count)) (s .next);
-      }
+module _ {mark : List ℕ} {width : ℕ} {sheet : List ℕ} {d records : ℕ} {index : List ℕ} {spread : Spread} {number : ℕ} (r : AboutReady mark width sheet d records index spread number) where
+  pub about-draw : DrawReady mark width sheet d records index (spread .coarse) (spread .fine .at) number
+  about-draw = record {
+    good = r .good;
+    run = r .indexed .coarse;
+    front = r .indexed .front;
+    all = r .indexed .all;
+    apart = r .indexed .apart;
+    room = omega (arith, r .indexed .fine .room, r .indexed .fine .some);
+    small = r .small;
+  }

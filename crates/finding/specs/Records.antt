@@ -60,6 +60,9 @@ module _ {mark : List ℕ} {width : ℕ} {sheet : List ℕ} {d deepest number of
   pub record-two : offset + length mark + 2 ≤ length sheet
   record-two = it .two
 
+  pub record-behind : offset + length mark ≤ length sheet
+  record-behind = omega (arith, record-two)
+
   pub record-code : 2 ≤ length (onward sheet (offset + length mark))
   record-code = rw (part-all sheet (offset + length mark)) (omega (arith, record-two, length-drop (offset + length mark) sheet))
 

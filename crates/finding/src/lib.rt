@@ -4,7 +4,7 @@ pub mod opened; // opened.rt: the whole check of a sheet
 
 ghost use mathlib.Core.Path.{_≡_};
 ghost use mathlib.Core.Bool.{true};
-ghost use Prim.Native.Nat.{suc, _+_, _*_, _≤_};
+ghost use Prim.Native.Nat.{suc, _+_, _*_, _≤_, _<_};
 ghost use lib.ListN.{length};
 ghost use Rattle.dimension.specs.Sizes.{isDimension, greatestDepth, codeLength};
 ghost use Rattle.sheets.specs.Steps.{markOf};
@@ -12,8 +12,8 @@ ghost use Rattle.finding.specs.Distances.{NoLaterIs, BetweenReady, Betwe
 ghost use Rattle.finding.specs.Finding.{entryIn, Indexed, FindReady, FoundIs};
 ghost use Rattle.finding.specs.Theorems.OneOfThree.{KindIs};
 ghost use Rattle.finding.specs.Seeks.{SeekReady, SoughtIs};
-ghost use Rattle.finding.specs.Indexes.{PutIs, WalkReady, WalkedIs, IndexReady};
-ghost use Rattle.finding.specs.Finds.{Nearer, NearestIs};
+ghost use Rattle.finding.specs.Indexes.{PutIs, WalkReady, WalkedIs, FillReady, FilledIs, BeforeIs, EndIs, DrawReady, IndexReady, AboutReady};
+ghost use Rattle.finding.specs.Finds.{RunsReady, RunFor, RunReady, HeldIs, Nearer, NearestIs};
 use dimension::Dim;
 use positions::Position;
 use sheets::Edition;
@@ -126,11 +126,20 @@ pub fn seek(
     }
 }
 
-// An index of a checked sheet: so many entries, each of a record so far behind the last one's. Three numbers for each entry stand in a
-// slice that the caller lends.
-pub struct Spread {
+// Entries of an index that stand one behind the other: so many, from number `at` on. The first is of record number `first`, each next
+// one of a record a stride behind. An entry is three numbers of a slice that the caller lends.
+pub struct Run {
+    pub at: usize,
     pub entries: usize,
+    pub first: usize,
     pub stride: usize,
+}
+
+// An index of a checked sheet: coarse entries, as evenly spread over all records as there is room, and behind them fine ones, of each
+// record about one of them. Cells that are asked for one after the other are mostly near each other, and a fine entry spares the walk.
+pub struct Spread {
+    pub coarse: Run,
+    pub fine: Run,
 }
 
 // An entry: where its record begins, and how far its leaf is from the front of the line.
@@ -208,7 +217,88 @@ fn walk_to(
     Entry { offset, place }
 }
 
-// Fills an index of a checked sheet of so many records: one pass over the sheet, and the records as evenly spread as there is room.
+// Fills entries from number `at` on: that of record number `first`, and those of the records a stride behind each other, up to record
+// number `to`.
+fn fill(
+    edition: Edition,
+    sheet: &[u8],
+    dimension: u8,
+    index: &mut [u64],
+    at: usize,
+    from: Entry,
+    first: usize,
+    stride: usize,
+    to: usize,
+) -> Run
+    requires { ⌜ FillReady (markOf edition) (edition .width) (now sheet) dimension (now index) at from first stride to ⌝ }
+    ensures { λ r. ⌜ FilledIs (markOf edition) (edition .width) (now (sheet .entry)) dimension (now (index .entry)) at first stride to (now (index .exit)) r ⌝ }
+{
+    let mut entries: usize = 0;
+    let mut number = first;
+    let mut entry = from;
+    loop {
+        put_entry(index, at + entries, entry);
+        entries += 1;
+        if to - number <= stride {
+            return Run {
+                at,
+                entries,
+                first,
+                stride,
+            };
+        }
+        let next = number + stride;
+        entry = walk_to(edition, sheet, dimension, entry, number, next);
+        number = next;
+    }
+}
+
+// The last coarse entry whose record stands so far before a record, or the first of all.
+fn coarse_before(number: usize, back: usize, stride: usize) -> usize
+    requires { ⌜ 1 ≤ stride ⌝ }
+    ensures { λ r. ⌜ BeforeIs number stride r ⌝ }
+{
+    if number < back {
+        return 0;
+    }
+    (number - back) / stride
+}
+
+// The end of so many records, or of all.
+fn end_of(first: usize, room: usize, records: usize) -> usize
+    requires { ⌜ (1 ≤ room) × (first < records) ⌝ }
+    ensures { λ r. ⌜ EndIs first room records r ⌝ }
+{
+    if records - first <= room {
+        return records;
+    }
+    first + room
+}
+
+// Draws the fine entries from number `at` on, as many as there is room for: a quarter of them before a record, the others from it on.
+fn draw_fine(
+    edition: Edition,
+    sheet: &[u8],
+    dimension: u8,
+    records: usize,
+    index: &mut [u64],
+    coarse: Run,
+    at: usize,
+    number: usize,
+) -> Run
+    requires { ⌜ DrawReady (markOf edition) (edition .width) (now sheet) dimension records (now index) coarse at number ⌝ }
+    ensures { λ r. ⌜ Indexed (markOf edition) (edition .width) (now (sheet .entry)) dimension (now (index .exit)) (record { coarse = coarse; fine = r }) ⌝ }
+{
+    let room = index.len() / 3 - at;
+    let e = coarse_before(number, room / 4, coarse.stride);
+    let entry = entry_at(index, coarse.at + e);
+    let first = e * coarse.stride;
+    let to = end_of(first, room, records);
+    fill(edition, sheet, dimension, index, at, entry, first, 1, to)
+}
+
+// Fills an index of a checked sheet of so many records: one pass over the sheet. A tenth of the room is for the fine entries, which are
+// drawn at the sheet's front.
 pub fn index_of(
     edition: Edition,
     sheet: &[u8],
@@ -220,36 +310,89 @@ pub fn index_of(
     ensures { λ r. ⌜ Indexed (markOf edition) (edition .width) (now (sheet .entry)) dimension (now (index .exit)) r ⌝ }
 {
     let room = index.len() / 3;
-    let stride = (records - 1) / room + 1;
+    let at = room - room / 10;
+    let stride = (records - 1) / at + 1;
     let front = Ahead {
         stretches: 0,
         part: 0,
     };
-    let mut entries: usize = 0;
-    let mut number: usize = 0;
-    let mut entry = Entry {
+    let entry = Entry {
         offset: 0,
         place: front,
     };
-    loop {
-        put_entry(index, entries, entry);
-        entries += 1;
-        if records - number <= stride {
-            return Spread { entries, stride };
-        }
-        let next = number + stride;
-        entry = walk_to(edition, sheet, dimension, entry, number, next);
-        number = next;
-    }
+    let coarse = fill(
+        edition,
+        sheet,
+        dimension,
+        index,
+        0,
+        entry,
+        0,
+        stride,
+        records,
+    );
+    let fine = draw_fine(edition, sheet, dimension, records, index, coarse, at, 0);
+    Spread { coarse, fine }
 }
 
-// The last entry, by halving, that is no later than a place.
-fn nearest(index: &[u64], entries: usize, place: Ahead) -> usize
-    requires { ⌜ Nearer (now index) entries place 0 entries ⌝ }
-    ensures { λ r. ⌜ NearestIs (now (index .entry)) entries place r ⌝ }
+// The same index, its fine entries drawn anew where a record has left the first three quarters of them.
+pub fn index_about(
+    edition: Edition,
+    sheet: &[u8],
+    dimension: u8,
+    records: usize,
+    index: &mut [u64],
+    spread: Spread,
+    number: usize,
+) -> Spread
+    requires { ⌜ AboutReady (markOf edition) (edition .width) (now sheet) dimension records (now index) spread number ⌝ }
+    ensures { λ r. ⌜ Indexed (markOf edition) (edition .width) (now (sheet .entry)) dimension (now (index .exit)) r ⌝ }
 {
-    let mut low: usize = 0;
-    let mut high = entries;
+    let at = spread.fine.at;
+    let reach = (index.len() / 3 - at) / 4 * 3;
+    if spread.fine.first <= number {
+        if number - spread.fine.first < reach {
+            return spread;
+        }
+    }
+    let coarse = spread.coarse;
+    let fine = draw_fine(
+        edition,
+        sheet,
+        dimension,
+        records,
+        index,
+        coarse,
+        at,
+        number,
+    );
+    Spread { coarse, fine }
+}
+
+// The entries to search for a place: the fine ones where they hold it.
+fn run_for(index: &[u64], spread: Spread, place: Ahead) -> Run
+    requires { ⌜ RunsReady (now index) spread ⌝ }
+    ensures { λ r. ⌜ RunFor (now (index .entry)) spread place r ⌝ }
+{
+    let fine = spread.fine;
+    let first = entry_at(index, fine.at);
+    if !is_no_later(first.place, place) {
+        return spread.coarse;
+    }
+    let last = entry_at(index, fine.at + (fine.entries - 1));
+    if !is_no_later(place, last.place) {
+        return spread.coarse;
+    }
+    fine
+}
+
+// The last entry of a run, by halving, that is no later than a place.
+fn nearest(index: &[u64], run: Run, place: Ahead) -> usize
+    requires { ⌜ Nearer (now index) (run .at) (run .at + run .entries) place (run .at) (run .at + run .entries) ⌝ }
+    ensures { λ r. ⌜ NearestIs (now (index .entry)) (run .at) (run .at + run .entries) place r ⌝ }
+{
+    let mut low = run.at;
+    let mut high = run.at + run.entries;
     while low + 1 < high {
         let middle = low + (high - low) / 2;
         let entry = entry_at(index, middle);
@@ -275,7 +418,28 @@ fn kind_of(leaf: u64, cell: u64) -> Kind
     Kind::Split
 }
 
-// Finds a cell, given by where it stands on the line: in a logarithm of steps among the entries, and a walk of less than a stride.
+// The record whose leaf's part of the line holds a place, by entries of which the first is no later: in a logarithm of steps among them,
+// and a walk of less than a stride.
+fn held_by(
+    edition: Edition,
+    sheet: &[u8],
+    dimension: u8,
+    index: &[u64],
+    run: Run,
+    place: Ahead,
+) -> Sought
+    requires { ⌜ RunReady (markOf edition) (edition .width) (now sheet) dimension (now index) run place ⌝ }
+    ensures { λ r. ⌜ HeldIs (markOf edition) (edition .width) (now (sheet .entry)) dimension place r ⌝ }
+{
+    let stretch = positions::power(Dim::checked(dimension).greatest_depth());
+    let at = nearest(index, run, place);
+    let entry = entry_at(index, at);
+    let ahead = between(entry.place, place, stretch);
+    let number = run.first + (at - run.at) * run.stride;
+    seek(edition, sheet, dimension, number, entry.offset, ahead)
+}
+
+// Finds a cell, given by where it stands on the line.
 pub fn find(
     edition: Edition,
     sheet: &[u8],
@@ -287,23 +451,13 @@ pub fn find(
     requires { ⌜ FindReady (markOf edition) (edition .width) (now sheet) dimension (now index) spread cell ⌝ }
     ensures { λ r. ⌜ FoundIs (markOf edition) (edition .width) (now (sheet .entry)) dimension cell r ⌝ }
 {
-    let deepest = Dim::checked(dimension).greatest_depth();
-    let stretch = positions::power(deepest);
     let place = Ahead {
         stretches: cell.root,
         part: cell.start,
     };
-    let at = nearest(index, spread.entries, place);
-    let entry = entry_at(index, at);
-    let ahead = between(entry.place, place, stretch);
-    let sought = seek(
-        edition,
-        sheet,
-        dimension,
-        at * spread.stride,
-        entry.offset,
-        ahead,
-    );
+    let run = run_for(index, spread, place);
+    let sought = held_by(edition, sheet, dimension, index, run, place);
+    let deepest = Dim::checked(dimension).greatest_depth();
     let kind = kind_of(positions::power(deepest - sought.depth), cell.size);
     Found {
         kind,

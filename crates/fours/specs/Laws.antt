@@ -60,14 +60,6 @@ unfolding stepped
 step-is e t n zero q = refl
 step-is e t n (suc b) q = rw (ne-eqb (suc b) 0 (λ z. absurd (omega arith))) q
 
--- one step up: the entries as they are where the sign is the box's own, turned back where it is not
-pub unstep-is : (e t : Four) (n own : ℕ) (same : Bool) → same ≡ sameSign (minus (getD (four e) n 0)) (high own (axis (getD (four e) n 0))) → four t ≡ unturned n (four e)
-    → BackIs n own (four e) (cond same 0 1)
-    (four (fourOf (cond same (e .first) (t .first)) (cond same (e .second) (t .second)) (cond same (e .third) (t .third)) (cond same (e .fourth) (t .fourth))))
-unfolding unstepped
-unstep-is e t n own true s q = record { step = ap (λ (b : Bool). cond b 0 1) s; entries = refl }
-unstep-is e t n own false s q = record { step = ap (λ (b : Bool). cond b 0 1) s; entries = q }
-
 -- an entry, where the dimension has it
 pub entry-none : (d n x : ℕ) → d ≤ n → 0 ≡ cond (ltb n d) x 0
 entry-none d n x h = rw (le-ltb n d h) refl

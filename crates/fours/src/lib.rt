@@ -10,7 +10,7 @@ ghost use lib.ListN.{length, getD, drop};
 ghost use lib.Seq.{paste};
 ghost use Rattle.bisection.specs.Codes.{axis, turned, stepped};
 ghost use Rattle.bisection.specs.Theorems.Entries.{unturned};
-ghost use Rattle.fours.specs.Fours.{four, noEntries, partOf, SameFour, BackIs, OwnIs};
+ghost use Rattle.fours.specs.Fours.{four, noEntries, partOf, SameFour, OwnIs};
 use entries::check;
 
 pub struct Four {
@@ -18,12 +18,6 @@ pub struct Four {
     pub second: u8,
     pub third: u8,
     pub fourth: u8,
-}
-
-// The entries one step up, and the step.
-pub struct Back {
-    pub before: Four,
-    pub step: u8,
 }
 
 // One of two bytes.
@@ -150,28 +144,6 @@ pub fn turned_back(e: Four, n: usize) -> Four
         second,
         third,
         fourth,
-    }
-}
-
-// Takes back the last step: entry n tells it by its sign against the parent's box.
-pub fn unstep(e: Four, n: usize, own: u8) -> Back
-    requires { ⌜ (n < 4) × (1 ≤ axis (getD (four e) n 0)) × (axis (getD (four e) n 0) ≤ 8) ⌝ }
-    ensures { λ r. ⌜ BackIs n own (four e) (r .step) (four (r .before)) ⌝ }
-{
-    let same = check::same_sign(entry(e, n), own);
-    let turned = turned_back(e, n);
-    let first = pick(same, e.first, turned.first);
-    let second = pick(same, e.second, turned.second);
-    let third = pick(same, e.third, turned.third);
-    let fourth = pick(same, e.fourth, turned.fourth);
-    Back {
-        before: Four {
-            first,
-            second,
-            third,
-            fourth,
-        },
-        step: pick(same, 0, 1),
     }
 }
 

@@ -15,7 +15,8 @@ use Rattle.bisection.specs.Theorems.Table.{Move, swap, farther, left, right, tr
 use Rattle.fours.specs.declared.Four.{Four}
 use Rattle.fours.specs.Fours.{four, Holds}
 use Rattle.fours.specs.Laws.{fourOf, held-few, held-at, held-axis}
-use Rattle.fours.specs.Words.{wordOf, bytesOf, WordIs}
+use Rattle.fours.specs.Words.{WordIs}
+use Rattle.entries.specs.Words.{wordOf, bytesOf}
 use Rattle.entries.specs.Walks.{placeIn, place-under, place-within}
 
 -- entry k + 1 carries the own sign that an orthant byte gives its axis

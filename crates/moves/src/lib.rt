@@ -10,8 +10,8 @@ ghost use Rattle.fours.specs.Fours.{four};
 ghost use Rattle.moves.specs.Carrying.{carriedIn};
 ghost use Rattle.moves.specs.Rearranging.{ownNext, Rearranges, Movable, within, rowAt, takenBy};
 use entries::check;
+use entries::words;
 use fours::Four;
-use fours::words;
 
 // The entries of the cell across, and the place of its new vertex.
 pub struct Moved {
@@ -143,7 +143,7 @@ pub fn rearranged(e: Four, d: usize, k: usize, i: usize, own: u8) -> Moved
     requires { ⌜ Movable d k i e ⌝ }
     ensures { λ r. ⌜ Rearranges k (within k i (ownNext k own (four e))) (four e) (r .place) (four (r .entries)) ⌝ }
 {
-    let old = words::word(e);
+    let old = fours::words::word(e);
     let next = words::byte_at(old, check::place_in(k, d));
     let by = row(number(k, i, check::same_sign(next, own)));
     Moved {

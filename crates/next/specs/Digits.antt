@@ -3,15 +3,17 @@ use mathlib.Core.Path.{_≡_, refl, sym, ap, _∙_, subst}
 use mathlib.Core.Bool.{Bool, true, false}
 use mathlib.Core.List.{List, [], _∷_, _++_}
 use mathlib.Core.Logic.{_≢_}
-use Prim.Native.Nat.{ℕ, zero, suc, _+_, _-_, _*_, _/_, _%_, _^_, _≤_, _<_}
+use Prim.Native.Nat.{ℕ, zero, suc, _+_, _-_, _*_, _/_, _%_, _^_, min, _≤_, _<_}
 use native.Mathlib.Omega.{arith}
+use native.Mathlib.Decide.{decLt}
 use native.Mathlib.Nat.{mul-assoc, add-mul, mul-one, zero-add, div-one, mod-one, suc-add, mod-lt, div-mul-le-self, pow-le-pow-right}
 use lib.Dec.{T}
-use lib.ListN.{length, getD, take, drop, replicate}
+use lib.ListN.{length, getD, take, drop, replicate, length-take, length-drop}
 use lib.Pow.{pow-add, pow-pos, shr-shr, high, low, mod-pow-add}
-use lib.Seq.{drop-cons}
+use lib.Seq.{drop-cons, getD-take, getD-drop, ext-getD}
 use Rattle.dimension.specs.Sizes.{halvings}
 use Rattle.dimension.specs.Laws.{halvings-few}
+use Rattle.entries.specs.Words.{wordOf, bytesOf, fourFrom, WordAt, bytes-same, bytes-of, word-sum}
 
 unfoldable pub digits : ℕ → ℕ → List ℕ
 digits zero w = []
@@ -61,6 +63,94 @@ module _ {n at : ℕ} {bs : List ℕ} {w i left : ℕ} (c : Comparing n at bs w 
       on = λ e. ap (drop 1) (sym split ∙ c .on e ∙ digits-split);
       back = λ e. c .back (split ∙ rw (q, l, e) (sym digits-split));
     }
+
+-- digit j of a number, and four of them
+abbrev pub digitAt : ℕ → ℕ → ℕ
+digitAt w j = w / 2 ^ (4 * j) % 16
+
+abbrev pub fourDigits : ℕ → ℕ → List ℕ
+fourDigits w from = digitAt w from ∷ digitAt w (from + 1) ∷ digitAt w (from + 2) ∷ digitAt w (from + 3) ∷ []
+
+pub digits-length : (n w : ℕ) → length (digits n w) ≡ n
+unfolding digits
+digits-length zero w = refl
+digits-length (suc n) w = ap suc (digits-length n (w / 16))
+
+digits-at : (n w j : ℕ) → j < n → getD (digits n w) j 0 ≡ digitAt w j
+unfolding digits
+digits-at zero w j h = absurd (omega arith)
+digits-at (suc n) w zero h = ap (λ (x : ℕ). x % 16) (sym (div-one w))
+digits-at (suc n) w (suc j) h = digits-at n (w / 16) j (omega arith) ∙ ap (λ (x : ℕ). x % 16) (shr-shr w 4 (4 * j) ∙ ap (λ (m : ℕ). w / 2 ^ m) (omega arith))
+
+-- four digits, as the code shifts them out
+pub digits-sum : (w from : ℕ) {left p q r s : ℕ} → left ≡ w / 2 ^ (4 * from) → p ≡ left % 16 → q ≡ left / 16 % 16 → r ≡ left / 256 % 16 → s ≡ left / 4096 % 16
+    → p + 256 * q + 65536 * r + 16777216 * s ≡ wordOf (fourDigits w from)
+digits-sum w from e f g h k = word-sum (digitAt w from) (digitAt w (from + 1)) (digitAt w (from + 2)) (digitAt w (from + 3)) (f ∙ ap (λ (x : ℕ). x % 16) e) (g ∙ on 1 16 e refl) (h ∙ on 2 256 e refl) (k ∙ on 3 4096 e refl)
+  where
+    on : (j p : ℕ) {left : ℕ} → left ≡ w / 2 ^ (4 * from) → p ≡ 2 ^ (4 * j) → left / p % 16 ≡ digitAt w (from + j)
+    on j p e q = rw (e, q) (ap (λ (x : ℕ). x % 16) (shr-shr w (4 * from) (4 * j) ∙ ap (λ (m : ℕ). w / 2 ^ m) (omega arith)))
+
+-- compared four at a time: those before place i are the same
+pub record SameTo (n at : ℕ) (bs : List ℕ) (w i : ℕ) : Type 0 where
+  pub same : (j : ℕ) → j < i → j < n → getD bs (at + j) 0 ≡ digitAt w j
+
+pub same-none : {n at : ℕ} {bs : List ℕ} {w : ℕ} → SameTo n at bs w 0
+same-none = record { same = λ j l m. absurd (omega arith) }
+
+module _ (n at : ℕ) (bs : List ℕ) (w : ℕ) (room : at + n ≤ length bs) where
+  byte-in : (j : ℕ) → j < n → getD (take n (drop at bs)) j 0 ≡ getD bs (at + j) 0
+  byte-in j h = getD-take n (drop at bs) j 0 h ∙ getD-drop at bs j 0
+
+  -- they are the same where the lists are
+  told-by : take n (drop at bs) ≡ digits n w → (j : ℕ) → j < n → getD bs (at + j) 0 ≡ digitAt w j
+  told-by e j h = sym (byte-in j h) ∙ ap (λ (l : List ℕ). getD l j 0) e ∙ digits-at n w j h
+
+  pub same-all : {i : ℕ} → SameTo n at bs w i → n ≤ i → SameDigits n (take n (drop at bs)) w true
+  same-all s l = record {
+    equal = λ e. ext-getD 0 (take n (drop at bs)) (digits n w) (size ∙ sym (digits-length n w)) (λ j h. let m : j < n = omega (arith, h, size) in byte-in j m ∙ s .same j (omega arith) m ∙ sym (digits-at n w j m));
+    told = λ e. refl;
+  }
+    where
+      size : length (take n (drop at bs)) ≡ n
+      size = simp (length-take, length-drop) (omega arith)
+
+  module _ (i from : ℕ) (many : 4 ≤ n) (f : from ≡ min i (n - 4)) {x y : ℕ} (a : WordAt bs (at + from) x) (b : y ≡ wordOf (fourDigits w from)) where
+    pub same-not : (x ≡ y → ⊥) → SameDigits n (take n (drop at bs)) w false
+    same-not q = record { equal = λ e. absurd (subst T (sym e) tt); told = λ e. absurd (q (a .is ∙ ap wordOf (list e) ∙ sym b)) }
+      where
+        there : take n (drop at bs) ≡ digits n w → (m p : ℕ) → m < 4 → p ≡ at + from + m → getD bs p 0 ≡ digitAt w (from + m)
+        there e m p l z = ap (λ (k : ℕ). getD bs k 0) (omega arith) ∙ told-by e (from + m) (omega arith)
+
+        list : take n (drop at bs) ≡ digits n w → fourFrom bs (at + from) ≡ fourDigits w from
+        list e = bytes-same (ap (λ (k : ℕ). getD bs k 0) refl ∙ told-by e from (omega arith)) (there e 1 (at + from + 1) (omega arith) refl) (there e 2 (at + from + 2) (omega arith) refl) (there e 3 (at + from + 3) (omega arith) refl)
+
+    pub same-next : SameTo n at bs w i → x ≡ y → SameTo n at bs w (i + 4)
+    same-next s q = record { same = λ j l m. go j l m (decLt j i) }
+      where
+        little : (j : ℕ) → digitAt w j < 256
+        little j = omega (arith, mod-lt (w / 2 ^ (4 * j)) {m = 16} (omega arith))
+
+        lists : fourFrom bs (at + from) ≡ fourDigits w from
+        lists = sym (a .bytes) ∙ ap bytesOf (q ∙ b ∙ sym (word-sum (digitAt w from) (digitAt w (from + 1)) (digitAt w (from + 2)) (digitAt w (from + 3)) refl refl refl refl))
+            ∙ bytes-of (digitAt w from) (digitAt w (from + 1)) (digitAt w (from + 2)) (digitAt w (from + 3)) (little from) (little (from + 1)) (little (from + 2)) (little (from + 3))
+
+        four-at : (l : List ℕ) (p m : ℕ) → m < 4 → getD (fourFrom l p) m 0 ≡ getD l (p + m) 0
+        four-at l p zero h = ap (λ (k : ℕ). getD l k 0) (omega arith)
+        four-at l p (suc zero) h = refl
+        four-at l p (suc (suc zero)) h = refl
+        four-at l p (suc (suc (suc zero))) h = refl
+        four-at l p (suc (suc (suc (suc m)))) h = absurd (omega arith)
+
+        digit-at : (p m : ℕ) → m < 4 → getD (fourDigits w p) m 0 ≡ digitAt w (p + m)
+        digit-at p zero h = ap (digitAt w) (omega arith)
+        digit-at p (suc zero) h = refl
+        digit-at p (suc (suc zero)) h = refl
+        digit-at p (suc (suc (suc zero))) h = refl
+        digit-at p (suc (suc (suc (suc m)))) h = absurd (omega arith)
+
+        go : (j : ℕ) → j < i + 4 → j < n → Dec (j < i) → getD bs (at + j) 0 ≡ digitAt w j
+        go j l m (yes k) = s .same j k m
+        go j l m (no k) = ap (λ (p : ℕ). getD bs p 0) (omega arith) ∙ sym (four-at bs (at + from) (j - from) (omega arith)) ∙ ap (λ (l : List ℕ). getD l (j - from) 0) lists ∙ digit-at from (j - from) (omega arith) ∙ ap (digitAt w) (omega arith)
 
 pub digits-take : (m n w : ℕ) → m ≤ n → digits m w ≡ take m (digits n w)
 unfolding digits

@@ -7,10 +7,11 @@ use Prim.Native.Nat.{ℕ, zero, suc, _+_, _-_, _/_, _^_, _≤_, _<_}
 use native.Mathlib.Omega.{arith}
 use lib.ListN.{length, getD, take, drop, length-take, length-drop, length-append}
 use lib.Seq.{paste, take-add, take-at, drop-at, drop-drop}
-use Rattle.dimension.specs.Sizes.{codeLength, greatestDepth, halvings, boxDepth}
+use Rattle.dimension.specs.declared.Dim.{Dim}
+use Rattle.dimension.specs.Sizes.{axesOf, codeLength, greatestDepth, halvings, boxDepth}
 use lib.Dec.{T}
 use borrow.Author.Tests.{not-true, not-false}
-use Rattle.dimension.specs.Laws.{Dimension, box-in, boxes-few}
+use Rattle.dimension.specs.Laws.{Dimension, axes-range, box-in, boxes-few}
 use Rattle.bisection.specs.Codes.{dimensionOf, depthOf, bytes, codeOf}
 use Rattle.codes.specs.Fronts.{frontLength, frontCode}
 use Rattle.codes.specs.Fronts.Laws.{front-length, front-is-front, front-code-rest}
@@ -21,7 +22,7 @@ use Rattle.next.specs.declared.Next.{Next}
 use Rattle.next.specs.declared.Match.{Match}
 use Rattle.next.specs.Paths.{steps, steps-length, steps-good, zeros, zeros-length}
 use Rattle.next.specs.Names.{nameAt, allBoxes, rooted-some, name-is, name-passes-at, zeros-entries, zeros-front}
-use Rattle.next.specs.Digits.{digits, digits-take, SameDigits}
+use Rattle.next.specs.Digits.{digits, digits-length, digits-take, SameDigits}
 use Rattle.next.specs.Nexts.{entriesOf, Stands, First, Matched, MatchIs, AfterReady}
 
 -- the bytes of the code of depth D, and a rest
@@ -75,11 +76,6 @@ module _ {d : ℕ} {s : Next} {root : List ℕ} {p : List Bool} (st : Stands d s
       deep : f .n + length p ≤ greatestDepth d
       deep = subst (λ (n : ℕ). f .n + length p ≤ greatestDepth n) (st .cell .rooted .axes) (omega (arith, f .code-of .good-path .depth, steps-length (zeros (f .n) p), zeros-length (f .n) p))
 
-digits-length : (n w : ℕ) → length (digits n w) ≡ n
-unfolding digits
-digits-length zero w = refl
-digits-length (suc n) w = ap suc (digits-length n (w / 16))
-
 -- what such bytes pass
 module _ {d : ℕ} {s : Next} {bs : List ℕ} (h : Shaped d s bs) where
   ds : List ℕ
@@ -113,6 +109,10 @@ module _ {d : ℕ} {s : Next} {bs : List ℕ} (h : Shaped d s bs) where
     where
       drop-2 : (l : List ℕ) → drop d (drop 2 l) ≡ drop (2 + d) l
       drop-2 l = drop-drop d 2 l
+
+-- no more boxes than halvings
+pub boxes-within : (dim : Dim) {most D L : ℕ} → most ≡ greatestDepth (axesOf dim) → L ≡ boxDepth (axesOf dim) D → D ≤ most → L ≤ halvings
+boxes-within dim {D = D} e f l = rw f (box-in (axesOf dim) D (omega (arith, axes-range dim .two)) (omega (arith, e)))
 
 -- a test that fails
 not-matched : {d : ℕ} {s : Next} {bs : List ℕ} → (Shaped d s bs → ⊥) → MatchIs d s bs (record { length = 0; depth = 0; boxes = 0 })

@@ -7,10 +7,12 @@ ghost use mathlib.Core.List.{_++_};
 ghost use Prim.Native.Nat.{_+_, _-_, _%_, _≤_, _<_};
 ghost use lib.ListN.{length, take, drop, replicate};
 ghost use Rattle.dimension.specs.Sizes.{axesOf, halvings, boxDepth};
-ghost use Rattle.next.specs.Digits.{digits, SameDigits};
+ghost use Rattle.entries.specs.Words.{wordOf};
+ghost use Rattle.next.specs.Digits.{digits, SameDigits, fourDigits};
 ghost use Rattle.next.specs.Nexts.{entriesOf, MatchIs, ClimbReady, UpIs, AfterReady, AfterIs, FirstIs};
 use dimension::Dim;
 use entries::check;
+use entries::words;
 use fours::Four;
 use positions::roots;
 
@@ -57,8 +59,8 @@ fn lowest(w: u64) -> u8
     (w % 16) as u8
 }
 
-// The n bytes from a place on are the first n digits of a number.
-fn same_boxes(bytes: &[u8], at: usize, n: usize, boxes: u64) -> bool
+// The n bytes from a place on are the first n digits of a number: one by one, where there are few.
+fn same_few(bytes: &[u8], at: usize, n: usize, boxes: u64) -> bool
     requires { ⌜ at + n ≤ length (now bytes) ⌝ }
     ensures { λ r. ⌜ SameDigits n (take n (drop at (now (bytes .entry)))) boxes r ⌝ }
 {
@@ -70,6 +72,42 @@ fn same_boxes(bytes: &[u8], at: usize, n: usize, boxes: u64) -> bool
         }
         left = left / 16;
         i += 1;
+    }
+    true
+}
+
+// The lowest digit, as wide as a word.
+fn digit(w: u64) -> u32
+    ensures { λ r. ⌜ (r ≡ w % 16) × (r < 16) ⌝ }
+{
+    (w % 16) as u32
+}
+
+// Four digits of a number, from a place on, as the bytes of a word.
+fn four_digits(boxes: u64, from: usize) -> u32
+    requires { ⌜ from < 16 ⌝ }
+    ensures { λ r. ⌜ r ≡ wordOf (fourDigits boxes from) ⌝ }
+{
+    let left = boxes >> (4 * from);
+    digit(left) + 256 * digit(left / 16) + 65536 * digit(left / 256) + 16777216 * digit(left / 4096)
+}
+
+// The n bytes from a place on are the first n digits of a number. Four at a time, and the last four where fewer are left: a loop whose
+// end is not foreseen costs more than the comparisons that it saves.
+fn same_boxes(bytes: &[u8], at: usize, n: usize, boxes: u64) -> bool
+    requires { ⌜ (at + n ≤ length (now bytes)) × (n ≤ halvings) ⌝ }
+    ensures { λ r. ⌜ SameDigits n (take n (drop at (now (bytes .entry)))) boxes r ⌝ }
+{
+    if n < 4 {
+        return same_few(bytes, at, n, boxes);
+    }
+    let mut i: usize = 0;
+    while i < Dim::HALVINGS {
+        let from = check::lower(i, n - 4);
+        if words::word_at(bytes, at + from) != four_digits(boxes, from) {
+            return false;
+        }
+        i += 4;
     }
     true
 }

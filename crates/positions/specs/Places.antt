@@ -46,17 +46,11 @@ module _ (code : List ℕ) (e : codeRefusal code ≡ done) {d D : ℕ} (first : 
   place-small g = omega (arith, g, small)
 
   module _ {n : ℕ} (same : n ≡ d) where
-    axes : (2 ≤ n) × (n ≤ 4) × (2 + n ≤ length code)
-    axes = rw same (code-axes code e ax dp refl)
-
-    pub place-two : 2 ≤ n
-    place-two = axes .0
+    pub place-axes : (2 ≤ n) × (n ≤ 4) × (2 + n ≤ length code)
+    place-axes = rw same (code-axes code e ax dp refl)
 
     pub place-few : n ≤ 4
-    place-few = axes .1
-
-    pub place-long : 2 + n ≤ length code
-    place-long = axes .2
+    place-few = place-axes .1
 
     module _ {from : Four} (f : four from ≡ paste noEntries 0 (drop 2 code) n) {most size : ℕ} (g : most ≡ greatestDepth d) (s : size ≡ 2 ^ (most - D)) where
       f-is : four from ≡ paste noEntries 0 (drop 2 code) d
@@ -76,9 +70,9 @@ module _ (code : List ℕ) (e : codeRefusal code ≡ done) {d D : ℕ} (first : 
         path-is : take D (w .path) ≡ pathOf code
         path-is = ap (take D) (up-path code e ax dp f-is (w .climbed)) ∙ take-at (pathOf code) (drop D (replicate D 0)) D path-size
 
-        pub place-is : {number : ℕ} → number ≡ numberIn n root n → PositionIs code (record { root = number; start = start; size = size })
+        pub place-is : {es : List ℕ} {number : ℕ} → es ≡ root → number ≡ numberIn n es n → PositionIs code (record { root = number; start = start; size = size })
         unfolding sizeOf
-        place-is {number} q = record {
+        place-is {es} {number} j q = record {
           root = rootOf code;
           path = pathOf code;
           code-of = c;
@@ -89,5 +83,5 @@ module _ (code : List ℕ) (e : codeRefusal code ≡ done) {d D : ℕ} (first : 
         }
           where
             is : number ≡ numberIn (length (rootOf code)) (rootOf code) (length (rootOf code))
-            is = q ∙ rw same (ap (λ (l : List ℕ). numberIn d l d) (sym (take-append-drop d root) ∙ ap (λ (l : List ℕ). l ++ drop d root) (up-root code e ax dp f-is (w .climbed)))
+            is = q ∙ rw (j, same) (ap (λ (l : List ℕ). numberIn d l d) (sym (take-append-drop d root) ∙ ap (λ (l : List ℕ). l ++ drop d root) (up-root code e ax dp f-is (w .climbed)))
                 ∙ number-front (rootOf code) (drop d root) d d (sym root-size) (omega arith)) ∙ ap (λ (m : ℕ). numberIn m (rootOf code) m) (sym root-size)

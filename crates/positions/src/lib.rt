@@ -7,12 +7,12 @@ ghost use Prim.Native.Nat.{_+_, _-_, _*_, _^_, _≤_, _<_};
 ghost use lib.ListN.{length};
 ghost use Rattle.dimension.specs.Sizes.{axesOf, greatestDepth};
 ghost use Rattle.bisection.specs.Refusals.{done, codeRefusal};
-ghost use Rattle.fours.specs.Fours.{four};
+ghost use Rattle.entries.specs.Words.{bytesOf};
 ghost use Rattle.positions.specs.Positions.{PositionIs};
 ghost use Rattle.positions.specs.RootNumbers.{smallerIn, numberIn};
 ghost use Rattle.positions.specs.Walks.{WalkReady, Reached};
 use dimension::Dim;
-use fours::Four;
+use fours::words;
 
 // The number of a cell's root in dictionary order, and its part of the root's stretch.
 pub struct Position {
@@ -65,52 +65,34 @@ fn number(root: &[u8], d: usize) -> usize
     n
 }
 
-// Where the way up from a code ends: its root's entries, and where the cell starts on the root's stretch.
+// Where the way up from a code ends: its root's entries as a word, and where the cell starts on the root's stretch.
 struct Origin {
-    root: Four,
+    root: u32,
     start: u64,
 }
 
 // Takes the steps of the entries back, the deepest first, up to the root.
-fn walk(code: &[u8], dim: Dim, depth: usize, from: Four, size: u64) -> Origin
-    requires { ⌜ WalkReady (axesOf dim) depth (now code) (four from) size ⌝ }
-    ensures { λ r. ⌜ Reached (axesOf dim) depth (now (code .entry)) (four from) (four (r .root)) (r .start) ⌝ }
+fn walk(code: &[u8], dim: Dim, depth: usize, from: u32, size: u64) -> Origin
+    requires { ⌜ WalkReady (axesOf dim) depth (now code) (bytesOf from) size ⌝ }
+    ensures { λ r. ⌜ Reached (axesOf dim) depth (now (code .entry)) (bytesOf from) (bytesOf (r .root)) (r .start) ⌝ }
 {
     let axes = dim.axes();
-    let mut first = from.first;
-    let mut second = from.second;
-    let mut third = from.third;
-    let mut fourth = from.fourth;
+    let mut root = from;
     let mut k = dim.split_place(depth);
     let mut boxes = dim.box_depth(depth);
     let mut start: u64 = 0;
     let mut half = size;
     let mut t: usize = depth;
     while 0 < t {
-        let here = Four {
-            first,
-            second,
-            third,
-            fourth,
-        };
         t -= 1;
         boxes = steps::boxes_above(boxes, k, axes);
         k = steps::place_above(k, axes);
         let own = steps::own_of(code, axes, boxes);
-        let back = fours::unstep(here, k - 1, own);
-        first = back.before.first;
-        second = back.before.second;
-        third = back.before.third;
-        fourth = back.before.fourth;
+        let back = words::unstep(root, k - 1, own);
+        root = back.before;
         start += wide(back.step) * half;
         half = half * 2;
     }
-    let root = Four {
-        first,
-        second,
-        third,
-        fourth,
-    };
     Origin { root, start }
 }
 
@@ -123,13 +105,9 @@ pub fn position_of(code: &[u8]) -> Position
     let axes = dim.axes();
     let depth = common::size(code[1]);
     let size = power(dim.greatest_depth() - depth);
-    let origin = walk(code, dim, depth, fours::entries_of(code, 2, axes), size);
-    let root = [
-        origin.root.first,
-        origin.root.second,
-        origin.root.third,
-        origin.root.fourth,
-    ];
+    let origin = walk(code, dim, depth, words::word_in(code, axes), size);
+    let entries = words::four_in(origin.root);
+    let root = [entries.first, entries.second, entries.third, entries.fourth];
     Position {
         root: number(&root, axes),
         start: origin.start,

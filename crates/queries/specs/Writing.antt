@@ -8,6 +8,7 @@ use lib.ListN.{length, getD, take, drop, length-map, List·getD-map, drop-of-len
 use lib.Seq.{drop-cons, getD-take, length-take-le}
 use Rattle.common.specs.Putting.{put, Puts, Putting, putting-start, putting-next, putting-end}
 use Rattle.bisection.specs.Cells.{pointBytes}
+use Rattle.bisection.specs.Theorems.Lists.{point-size}
 
 -- the first d + 1 weights, halved
 unfoldable pub halved : ℕ → ℕ → List ℕ → List ℕ
@@ -30,11 +31,6 @@ pub record Writing (d boxes : ℕ) (w out₀ : List ℕ) (n : ℕ) (out : List �
   pub inside : n ≤ suc d
   pub putting : Putting 0 (weightBytes d boxes w) out₀ (2 * n) (pointBytes (drop n (halved d boxes w))) out
 
-pub bytes-length : (ws : List ℕ) → length (pointBytes ws) ≡ 2 * length ws
-unfolding pointBytes
-bytes-length [] = refl
-bytes-length (w ∷ ws) = omega (arith, bytes-length ws)
-
 module _ {d boxes : ℕ} {w out : List ℕ} (r : WeightsReady d boxes w out) where
   pub halved-length : length (halved d boxes w) ≡ suc d
   unfolding halved
@@ -46,7 +42,7 @@ module _ {d boxes : ℕ} {w out : List ℕ} (r : WeightsReady d boxes w out) whe
 
   pub weights-length : length (weightBytes d boxes w) ≡ 2 * suc d
   unfolding weightBytes
-  weights-length = bytes-length (halved d boxes w) ∙ ap (λ (n : ℕ). 2 * n) halved-length
+  weights-length = point-size (halved d boxes w) ∙ ap (λ (n : ℕ). 2 * n) halved-length
 
   pub writing-start : {a : ℕ} → a ≡ d → Writing a boxes w out 0 out
   unfolding weightBytes

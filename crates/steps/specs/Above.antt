@@ -4,6 +4,7 @@ use mathlib.Core.Bool.{cond}
 use mathlib.Core.List.{List}
 use Prim.Native.Nat.{ℕ, suc, _+_, _-_, _≤_, _<_}
 use native.Mathlib.Omega.{arith}
+use native.Mathlib.Decide.{ℕ-discrete}
 use lib.Dec.{eqb}
 use borrow.Author.Tests.{eq-eqb, ne-eqb}
 use mathlib.Core.Logic.{_⊎_, inl, inr}
@@ -85,10 +86,10 @@ pub own-by : (code : List ℕ) (d b b′ : ℕ) {own : ℕ} → b ≡ b′ → o
 own-by code d b b′ e u = u ∙ ap (λ (n : ℕ). ownByte (take n (drop (2 + d) code))) e
 
 -- the own byte by the count of boxes
-pub own-no-box : (d boxes : ℕ) (code : List ℕ) → boxes ≡ 0 → 0 ≡ ownByte (take boxes (drop (2 + d) code))
+own-no-box : (d boxes : ℕ) (code : List ℕ) → boxes ≡ 0 → 0 ≡ ownByte (take boxes (drop (2 + d) code))
 own-no-box d boxes code e = rw e refl
 
-pub own-last-box : (d boxes : ℕ) (code : List ℕ) → 2 + d + boxes ≤ length code → (boxes ≡ 0 → ⊥) → getD code (1 + d + boxes) 0 ≡ ownByte (take boxes (drop (2 + d) code))
+own-last-box : (d boxes : ℕ) (code : List ℕ) → 2 + d + boxes ≤ length code → (boxes ≡ 0 → ⊥) → getD code (1 + d + boxes) 0 ≡ ownByte (take boxes (drop (2 + d) code))
 own-last-box d boxes code h n = sym (rw counted (getD-take boxes (drop (2 + d) code) (boxes - 1) 0 (omega arith) ∙ getD-drop (2 + d) code (boxes - 1) 0) ∙ ap (λ (i : ℕ). getD code i 0) there)
   where
     counted : length (take boxes (drop (2 + d) code)) ≡ boxes
@@ -96,3 +97,10 @@ own-last-box d boxes code h n = sym (rw counted (getD-take boxes (drop (2 + d) c
 
     there : 2 + d + (boxes - 1) ≡ 1 + d + boxes
     there = omega arith
+
+pub own-either : (d boxes : ℕ) (code : List ℕ) → 2 + d + boxes ≤ length code → cond (eqb boxes 0) 0 (getD code (1 + d + boxes) 0) ≡ ownByte (take boxes (drop (2 + d) code))
+own-either d boxes code h = go (ℕ-discrete boxes 0)
+  where
+    go : Dec (boxes ≡ 0) → cond (eqb boxes 0) 0 (getD code (1 + d + boxes) 0) ≡ ownByte (take boxes (drop (2 + d) code))
+    go (yes e) = rw (eq-eqb boxes 0 e) (own-no-box d boxes code e)
+    go (no e) = rw (ne-eqb boxes 0 e) (own-last-box d boxes code h e)

@@ -78,8 +78,8 @@ module _ {code : List ℕ} {d D : ℕ} {root path : List ℕ} (r : PathReady cod
     pub path-rises : {k boxes : ℕ} → k ≡ splitPlace d D → boxes ≡ boxDepth d D → Rising n D code (four from) path D k boxes (four from) path
     path-rises g h = rise-none (up-ready code (r .passes) (e ∙ r .axes) (r .depth) f path (r .path-room)) (rw e g) (rw e h)
 
-    pub path-stands : {t k boxes : ℕ} {root' path' out : List ℕ} → Rising n D code (four from) path t k boxes root' path' → t ≤ 0 → out ≡ paste root 0 root' n → PathStands code d D root path out path'
-    path-stands i z w = record {
-      root-written = w ∙ rw (zero-add n, up-root code (r .passes) (e ∙ r .axes) (r .depth) f (rise-done i z), e) refl;
+    pub path-stands : {t k boxes : ℕ} {root' path' es out : List ℕ} → Rising n D code (four from) path t k boxes root' path' → t ≤ 0 → es ≡ root' → out ≡ paste root 0 es n → PathStands code d D root path out path'
+    path-stands i z j w = record {
+      root-written = w ∙ ap (λ (es : List ℕ). paste root 0 es n) j ∙ rw (zero-add n, up-root code (r .passes) (e ∙ r .axes) (r .depth) f (rise-done i z), e) refl;
       path-written = up-path code (r .passes) (e ∙ r .axes) (r .depth) f (rise-done i z);
     }

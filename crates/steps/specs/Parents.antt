@@ -122,9 +122,9 @@ module _ {code out : List ℕ} {d D : ℕ} (r : ParentReady code d D out) where
           there : 2 + d + boxDepth d D ≡ suc (suc (length ((partsOf code) .entries) + boxDepth d D))
           there = omega (arith, code-passes code (r .passes) (r .axes) (r .depth) .signed .size)
 
-      pub parent-written : {own b v : ℕ} {back : Four} {c a : List ℕ} → own ≡ ownByte (take q (drop (2 + n) code)) → BackIs (n - (D - n * q) - 1) own (four from) b (four back)
-          → c ≡ take (2 + n + q) code ++ drop (2 + n + q) out → v ≡ getD code 1 0 - 1 → a ≡ paste (set c 1 v) 2 (four back) n → a ≡ parentCode code ++ drop (codeLength d D) out
-      parent-written {own} {b} {v} {back} {c} {a} o s g w i = i
+      pub parent-written : {own b v : ℕ} {back : Four} {c a es : List ℕ} → own ≡ ownByte (take q (drop (2 + n) code)) → BackIs (n - (D - n * q) - 1) own (four from) b (four back)
+          → c ≡ take (2 + n + q) code ++ drop (2 + n + q) out → v ≡ getD code 1 0 - 1 → es ≡ four back → a ≡ paste (set c 1 v) 2 es n → a ≡ parentCode code ++ drop (codeLength d D) out
+      parent-written {own} {b} {v} {back} {c} {a} o s g w j i = i ∙ ap (λ (es : List ℕ). paste (set c 1 v) 2 es n) j
           ∙ rw (copied, e) (entries-over d d D (m .entries) (four back) ((parentName d D m) .entries) (fewer d D (m .orthants) ++ rest) (passes .signed .size) up)
           ∙ sym (append-assoc (d ∷ D ∷ (parentName d D m) .entries) (fewer d D (m .orthants)) rest) ∙ named
         where

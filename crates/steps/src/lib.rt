@@ -16,6 +16,7 @@ ghost use Rattle.steps.specs.Above.{placeAbove, BoxesReady, boxesAbove};
 ghost use Rattle.steps.specs.Relatives.{ChildReady, ParentReady};
 use dimension::Dim;
 use fours::Four;
+use fours::words;
 
 // The orthant after a step, which the entries give: one is put behind the others when the new level is 0, that is when k was 1.
 // Answers where the next one goes.
@@ -63,15 +64,14 @@ pub fn boxes_above(boxes: usize, k: usize, axes: usize) -> usize
     boxes
 }
 
-// The byte of the own signs of the box, the last of the first so many orthants, 0 where there is none.
+// The byte of the own signs of the box, the last of the first so many orthants, 0 where there is none. It is read either way, which
+// costs less than a branch.
 pub fn own_of(code: &[u8], axes: usize, boxes: usize) -> u8
     requires { ⌜ 2 + axes + boxes ≤ length (now code) ⌝ }
     ensures { λ r. ⌜ r ≡ ownByte (take boxes (drop (2 + axes) (now (code .entry)))) ⌝ }
 {
-    if boxes == 0 {
-        return 0;
-    }
-    code[1 + axes + boxes]
+    let last = code[1 + axes + boxes];
+    fours::pick(boxes == 0, 0, last)
 }
 
 // Writes the child's code: a copy of the code with one more depth, the entries stepped, and the orthant that they give.
@@ -98,8 +98,8 @@ pub fn write_parent(code: &[u8], dim: Dim, depth: usize, out: &mut [u8])
     let boxes = dim.box_depth(depth);
     let own = own_of(code, axes, boxes);
     let k = axes - (depth - axes * boxes);
-    let back = fours::unstep(fours::entries_of(code, 2, axes), k - 1, own);
+    let back = words::unstep(words::word_in(code, axes), k - 1, own);
     buffers::copy_front(code, 2 + axes + boxes, out);
     out[1] = code[1] - 1;
-    fours::write(back.before, axes, out, 2);
+    fours::write(words::four_in(back.before), axes, out, 2);
 }

@@ -8,6 +8,7 @@ ghost use Rattle.steps.specs.Descents.{CodeReady};
 ghost use Rattle.steps.specs.Ascents.{PathReady, PathStands};
 use dimension::Dim;
 use fours::Four;
+use fours::words;
 
 // Writes the code of a good root and a good path: an orthant at each new box, and the entries at the end.
 pub fn write_code(dim: Dim, root: &[u8], path: &[u8], code: &mut [u8])
@@ -56,11 +57,7 @@ pub fn write_path(code: &[u8], dim: Dim, depth: usize, root: &mut [u8], path: &m
     ensures { λ r. ⌜ PathStands (now (code .entry)) (axesOf dim) depth (now (root .entry)) (now (path .entry)) (now (root .exit)) (now (path .exit)) ⌝ }
 {
     let axes = dim.axes();
-    let from = fours::entries_of(code, 2, axes);
-    let mut first = from.first;
-    let mut second = from.second;
-    let mut third = from.third;
-    let mut fourth = from.fourth;
+    let mut entries = words::word_in(code, axes);
     let mut k = dim.split_place(depth);
     let mut boxes = dim.box_depth(depth);
     let mut t: usize = depth;
@@ -69,24 +66,9 @@ pub fn write_path(code: &[u8], dim: Dim, depth: usize, root: &mut [u8], path: &m
         boxes = crate::boxes_above(boxes, k, axes);
         k = crate::place_above(k, axes);
         let own = crate::own_of(code, axes, boxes);
-        let here = Four {
-            first,
-            second,
-            third,
-            fourth,
-        };
-        let back = fours::unstep(here, k - 1, own);
-        first = back.before.first;
-        second = back.before.second;
-        third = back.before.third;
-        fourth = back.before.fourth;
+        let back = words::unstep(entries, k - 1, own);
+        entries = back.before;
         path[t] = back.step;
     }
-    let last = Four {
-        first,
-        second,
-        third,
-        fourth,
-    };
-    fours::write(last, axes, root, 0);
+    fours::write(words::four_in(entries), axes, root, 0);
 }

@@ -1,12 +1,12 @@
--- Lists read by their places: a list shifted left with one element put behind, and the midpoint of two points.
+-- Lists read by their places: a list shifted left with one element put behind, the midpoint of two points, and how many bytes a point has.
 use mathlib.Core.Path.{_≡_, refl, sym, ap, _∙_, subst}
 use mathlib.Core.List.{List, [], _∷_, _++_}
-use Prim.Native.Nat.{ℕ, zero, suc, _+_, _-_, _/_, _<_}
+use Prim.Native.Nat.{ℕ, zero, suc, _+_, _-_, _*_, _/_, _<_}
 use native.Mathlib.Omega.{arith}
 use native.Mathlib.Numerals.{one-add}
 use lib.ListN.{length, getD, take, drop, length-take, length-drop, length-append, List·getD-append}
 use lib.Seq.{getD-take, getD-drop, getD-append-add, getD-at}
-use Rattle.bisection.specs.Cells.{midpoint}
+use Rattle.bisection.specs.Cells.{midpoint, pointBytes}
 
 -- places 1..n go to 0..n-1, x stands at n, and what is past n stays
 unfoldable pub shifted : {A : Type 0} → ℕ → A → List A → List A
@@ -56,3 +56,9 @@ unfolding midpoint
 length-midpoint [] q e = refl
 length-midpoint (x ∷ xs) [] e = absurd (omega arith)
 length-midpoint (x ∷ xs) (y ∷ ys) e = ap suc (length-midpoint xs ys (omega arith))
+
+-- two bytes to a coordinate
+pub point-size : (v : List ℕ) → length (pointBytes v) ≡ 2 * length v
+unfolding pointBytes
+point-size [] = refl
+point-size (x ∷ v) = omega (arith, point-size v)

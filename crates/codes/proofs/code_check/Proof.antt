@@ -6,11 +6,11 @@ use Rattle.codes.proofs.code_check.Tie as tie
 
 code-body-requires : tie.Need-code-body-requires
 code-body-requires c κs =
-    let args = c .before .before .before .before .before .before .before .args in
-    let if1 = c .before .before .before .before .before .if1 in
-    let code-head = c .before .before .before .before .code-head in
-    let if2 = c .before .before .if2 in
-    check-headed (args .code .now) (if1 .left) _ (code-head .ensures) (if2 .left) (c .if3 .left)
+    let start : tie.Start = search in
+    let passed1 : tie.Else1 = search in
+    let code-head : tie.After-code-head = search in
+    let passed2 : tie.Else2 = search in
+    check-headed (start .args .code .now) (passed1 .if1 .left) _ (code-head .code-head .ensures) (passed2 .if2 .left) (c .if3 .left)
 
 pub code-check-spec : {M : Type 1} → statement M
 code-check-spec =

@@ -15,35 +15,36 @@ use Rattle.codes.proofs.code_head.Tie as tie
 returns : tie.Need-returns
 unfolding dimensionOf depthOf
 returns c =
-    let dim = c .before .before .before .dim in
-    let args = c .before .before .before .before .before .before .before .before .before .before .before .args in
-    let of = c .before .before .before .before .before .of in
-    let size2 = c .before .before .before .before .before .before .size2 in
-    let size = c .before .before .before .before .before .before .before .size in
-    let known = dim .given in
-    let axes : axesOf (known .0 .0) ≡ dimensionOf (args .bytes .now) = subst (KnownIs _) (known .1) (of .ensures) ∙ size2 .ensures in
-    head-deep _ (rw (← axes) (axes-dimension (known .0 .0))) (rw (← axes) (omega (arith, c .before .greatest-depth .ensures, size .ensures)))
+    let start : tie.Start = search in
+    let size : tie.After-size = search in
+    let size2 : tie.After-size2 = search in
+    let of : tie.After-of = search in
+    let dim : tie.After-dim = search in
+    let known = dim .dim .given in
+    let axes : axesOf (known .0 .0) ≡ dimensionOf (start .args .bytes .now) = subst (KnownIs _) (known .1) (of .of .ensures) ∙ size2 .size2 .ensures in
+    head-deep _ (rw (← axes) (axes-dimension (known .0 .0))) (rw (← axes) (omega (arith, c .before .greatest-depth .ensures, size .size .ensures)))
 
 returns-2 : tie.Need-returns-2
 unfolding dimensionOf
 returns-2 c =
-    let size2 = c .before .before .before .size2 in
-    let of = c .before .before .of in
+    let size2 : tie.After-size2 = search in
+    let of : tie.After-of = search in
     let known = c .enum-told .given in
-    head-none _ (subst (λ (n : ℕ). isDimension n ≡ false) (size2 .ensures) (subst (KnownIs _) (known .1) (of .ensures)))
+    head-none _ (subst (λ (n : ℕ). isDimension n ≡ false) (size2 .size2 .ensures) (subst (KnownIs _) (known .1) (of .of .ensures)))
 
 returns-3 : tie.Need-returns-3
 unfolding dimensionOf depthOf
 returns-3 c =
-    let dim = c .before .before .before .before .dim in
-    let args = c .before .before .before .before .before .before .before .before .before .before .before .before .args in
-    let of = c .before .before .before .before .before .before .of in
-    let size2 = c .before .before .before .before .before .before .before .size2 in
-    let greatest-depth = c .before .before .greatest-depth in
-    let size = c .before .before .before .before .before .before .before .before .size in
-    let known = dim .given in
-    let axes : axesOf (known .0 .0) ≡ dimensionOf (args .bytes .now) = subst (KnownIs _) (known .1) (of .ensures) ∙ size2 .ensures in
-    head-done _ (rw (← axes) (axes-dimension (known .0 .0))) (rw (← axes) (omega (arith, greatest-depth .ensures, size .ensures))) _ (rw (← axes) (c .code-length .ensures ∙ ap (codeLength (axesOf (known .0 .0))) (size .ensures)))
+    let start : tie.Start = search in
+    let size : tie.After-size = search in
+    let size2 : tie.After-size2 = search in
+    let of : tie.After-of = search in
+    let dim : tie.After-dim = search in
+    let greatest-depth : tie.After-greatest-depth = search in
+    let known = dim .dim .given in
+    let axes : axesOf (known .0 .0) ≡ dimensionOf (start .args .bytes .now) = subst (KnownIs _) (known .1) (of .of .ensures) ∙ size2 .size2 .ensures in
+    head-done _ (rw (← axes) (axes-dimension (known .0 .0))) (rw (← axes) (omega (arith, greatest-depth .greatest-depth .ensures, size .size .ensures))) _
+    (rw (← axes) (c .code-length .ensures ∙ ap (codeLength (axesOf (known .0 .0))) (size .size .ensures)))
 
 pub code-head-spec : {M : Type 1} → statement M
 code-head-spec =

@@ -8,8 +8,8 @@ use Rattle.codes.proofs.path_in.Tie as tie
 
 write-code-requires : tie.Need-write-code-requires
 write-code-requires c κs =
-    let s = c .before .before .before .before .before .before .before .before .before .before .before .before .args in
-    search (needs, path-ready (s .root .now) (s .path .now) (s .code .now) (s .dim))
+    let start : tie.Start = search in
+    search (needs, path-ready (start .args .root .now) (start .args .path .now) (start .args .code .now) (start .args .dim))
 
 pub path-in-spec : {M : Type 1} → statement M
 path-in-spec =
@@ -18,7 +18,7 @@ path-in-spec =
     (λ c κs. search needs)
     (λ c κs. search needs)
     (λ c. search (needs, path-depth))
-    (λ c κs. let s = c .before .before .before .before .before in omega (arith, s .pre, axes-range (s .args .dim) .two, axes-range (s .args .dim) .few))
+    (λ c κs. let start : tie.Start = search in omega (arith, start .pre, axes-range (start .args .dim) .two, axes-range (start .args .dim) .few))
     (λ c κs. search needs)
     (λ c. search (needs, path-permutation))
     (λ c κs. search needs)

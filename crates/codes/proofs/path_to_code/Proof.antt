@@ -7,7 +7,9 @@ use Rattle.codes.proofs.path_to_code.Statement.{statement}
 use Rattle.codes.proofs.path_to_code.Tie as tie
 
 returns : tie.Need-returns
-returns c = let h = c .before .enum-told .given in path-dimension _ _ _ (subst (KnownIs _) (h .1) (c .before .before .before .of .ensures)) (c .refused .ensures)
+returns c =
+    let of : tie.After-of = search in
+    let h = c .before .enum-told .given in path-dimension _ _ _ (subst (KnownIs _) (h .1) (of .of .ensures)) (c .refused .ensures)
 
 pub path-to-code-spec : {M : Type 1} → statement M
 path-to-code-spec =
@@ -17,7 +19,7 @@ path-to-code-spec =
     (λ c. search needs)
     (λ c κs. search needs)
     (λ c. search needs)
-    (λ c κs. let h = c .before .before .dim .given in subst (KnownIs _) (h .1) (c .before .before .before .before .of .ensures))
+    (λ c κs. let of : tie.After-of = search in let h = c .before .before .dim .given in subst (KnownIs _) (h .1) (of .of .ensures))
     returns
     (λ c. search needs)
     (λ c. search needs))

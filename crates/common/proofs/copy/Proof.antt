@@ -17,12 +17,12 @@ abbrev μ-loop : tie.MeasureT-loop
 
 loop-again : tie.Need-loop-again Inv-loop μ-loop
 loop-again c =
-    let args = c .before .before .before .args in
+    let start : tie.Start Inv-loop μ-loop = search in
     let inv = c .before .before .loop .inv in (
       omega arith,
       simp length-set (inv .1),
       rw (inv .2)
-          (copied-next (args .dst .now) (args .to) (args .from) (args .src .now) (c .before .before .loop .i) (omega arith) (omega arith)),
+          (copied-next (start .args .dst .now) (start .args .to) (start .args .from) (start .args .src .now) (c .before .before .loop .i) (omega arith) (omega arith)),
     )
 
 pub copy-spec : {M : Type 1} → statement M

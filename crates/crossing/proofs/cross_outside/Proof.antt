@@ -8,19 +8,24 @@ use Rattle.crossing.proofs.cross_outside.Statement.{statement}
 use Rattle.crossing.proofs.cross_outside.Tie as tie
 
 add-out : tie.Need-add-out
-add-out c = let r = c .before .before .before .before .before .before .before .before .before .before .before .pre in omega (arith, leaving-few r, r .place)
+add-out c =
+    let start : tie.Start = search in
+    omega (arith, leaving-few (start .pre), start .pre .place)
 
 slice-write-out : tie.Need-slice-write-out
 slice-write-out c =
-    let pre = c .before .before .before .before .before .before .before .before .before .before .before .pre in
-    let if2 = c .before .before .before .before .before .before .if2 in
-    omega (arith, leaving-at (pre), c .before .out .given, if2 .left)
+    let start : tie.Start = search in
+    let passed : tie.Else2 = search in
+    omega (arith, leaving-at (start .pre), c .before .out .given, passed .if2 .left)
 
 carry-requires : tie.Need-carry-requires
 carry-requires c κs =
-    let r = c .before .before .before .before .before .before .before .before .before .before .before .before .pre in
-    let passes = sym (c .before .before .before .before .before .before .before .before .before .runs-out .ensures) ∙ c .before .before .before .before .before .before .before .before .if1 .left in
-    (leaving-some r passes, simp length-set (omega (arith, c .before .before .out .given, c .before .before .before .before .before .before .before .if2 .left)), r .low, r .high)
+    let start : tie.Start = search in
+    let runs-out : tie.After-runs-out = search in
+    let passed1 : tie.Else1 = search in
+    let passed2 : tie.Else2 = search in
+    let passes = sym (runs-out .runs-out .ensures) ∙ passed1 .if1 .left in
+    (leaving-some (start .pre) passes, simp length-set (omega (arith, c .before .before .out .given, passed2 .if2 .left)), start .pre .low, start .pre .high)
 
 pub cross-outside-spec : {M : Type 1} → statement M
 cross-outside-spec =
@@ -32,13 +37,13 @@ cross-outside-spec =
     (λ c. search (needs, leaving-face))
     (λ c κs. search needs)
     (λ c. search (needs, leaving-short))
-    (λ c. let r = c .before .before .before .before .before .pre in omega (arith, leaving-few r, r .place))
+    (λ c. let start : tie.Start = search in omega (arith, leaving-few (start .pre), start .pre .place))
     (λ c. search (needs, leaving-at))
     (λ c κs. search needs)
     (λ c κs. search (needs, leaving-long, leaving-most))
     add-out
     slice-write-out
-    (λ c. omega (arith, leaving-few (c .before .before .before .before .before .before .before .before .before .before .before .before .pre)))
+    (λ c. let start : tie.Start = search in omega (arith, leaving-few (start .pre)))
     carry-requires
-    (λ c. c .before .out2 .given ∙ simp length-set (c .before .before .before .before .before .out .given))
+    (λ c. let out : tie.After-out = search in c .before .out2 .given ∙ simp length-set (out .out .given))
     (λ c. search (needs, leaving-done)))

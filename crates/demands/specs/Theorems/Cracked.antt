@@ -24,6 +24,7 @@ use Rattle.sheets.specs.Theorems.Listing.{GoodCell, code-of-cell}
 use Rattle.finding.specs.Walk.{leaf-good}
 use Rattle.compatible.specs.Compatible.{IsLeaf, NearLeaf, itself, parent, child, Meets, Compatible}
 use Rattle.compatible.specs.Crossing.{codeFor, beyond, beyond-code, near-meets, meets-near}
+use Rattle.compatible.specs.FacetLaws.{Walls}
 use Rattle.demands.specs.TwoLeaves.{two-leaves}
 
 -- the sheet of some leaves, every sample 0
@@ -73,11 +74,11 @@ module _ {c : TreeCell} (good : GoodCell c) (i : ℕ) (il : i ≤ dimensionOf (c
   cell : IsCell (codeFor c) (cellOf (c .root) (c .path))
   cell = record { root = c .root; path = c .path; code-of = code-of-cell good; is = refl }
 
-  in-face : isBlocked (codeFor c) i ≡ true → InFace (length (c .root)) (facet i (cellOf (c .root) (c .path)))
+  in-face : isBlocked (codeFor c) i ≡ true → Walls c i
   in-face e = subst (λ (n : ℕ). InFace n (facet i (cellOf (c .root) (c .path)))) (sym (length-root (code-of-cell good))) (blocked-is-face cell i il e)
 
   module _ (e : isBlocked (codeFor c) i ≡ false) where
-    free : ¬ InFace (length (c .root)) (facet i (cellOf (c .root) (c .path)))
+    free : ¬ Walls c i
     free w = subst T (sym (face-is-blocked cell i il (subst (λ (n : ℕ). InFace n (facet i (cellOf (c .root) (c .path)))) (length-root (code-of-cell good)) w)) ∙ e) tt
 
     across : Across (codeFor c) i (tableCode (codeFor c) i) (tablePlace (codeFor c) i)
@@ -112,7 +113,7 @@ unfolding codeOf bytes nameOf nameBelow minus axis high level splitPlace boxDept
 other-faces = record { axes = refl; first = refl; middle = refl; last = refl; across-is = refl }
 
 -- the rule holds of a root's facets where the other root is a leaf
-root-holds : {c d : TreeCell} → GoodCell c → GoodCell d → Facing c d → {leaves : List TreeCell} → IsLeaf leaves d → (i : ℕ) → i ≤ 2 → ¬ InFace (length (c .root)) (facet i (cellOf (c .root) (c .path))) → Meets leaves c i
+root-holds : {c d : TreeCell} → GoodCell c → GoodCell d → Facing c d → {leaves : List TreeCell} → IsLeaf leaves d → (i : ℕ) → i ≤ 2 → ¬ Walls c i → Meets leaves c i
 root-holds g h f l zero m free = absurd (free (in-face g 0 (omega arith) (f .first)))
 root-holds g h f l (suc zero) m free = meets g 1 (omega (arith, f .axes)) (f .middle) h (f .across-is) (itself l)
 root-holds g h f l (suc (suc zero)) m free = absurd (free (in-face g 2 (omega (arith, f .axes)) (f .last)))
@@ -122,7 +123,7 @@ pub two-compatible : Compatible (two-leaves .cells)
 unfolding two-leaves
 two-compatible = record { holds = go }
   where
-    go : (n : ℕ) → n < 2 → (i : ℕ) → i ≤ length (leafIn (two-leaves .cells) n .root) → ¬ InFace (length (leafIn (two-leaves .cells) n .root)) (facet i (cellOf (leafIn (two-leaves .cells) n .root) (leafIn (two-leaves .cells) n .path))) → Meets (two-leaves .cells) (leafIn (two-leaves .cells) n) i
+    go : (n : ℕ) → n < 2 → (i : ℕ) → i ≤ length (leafIn (two-leaves .cells) n .root) → ¬ Walls (leafIn (two-leaves .cells) n) i → Meets (two-leaves .cells) (leafIn (two-leaves .cells) n) i
     go zero l i m free = root-holds one-good other-good one-faces (record { number = 1; small = omega arith; is = refl }) i m free
     go (suc zero) l i m free = root-holds other-good one-good other-faces (record { number = 0; small = omega arith; is = refl }) i m free
     go (suc (suc n)) l i m free = absurd (omega arith)

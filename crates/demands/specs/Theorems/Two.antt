@@ -17,6 +17,7 @@ use Rattle.bisection.specs.Codes.{codeOf, IsCodeOf, dimensionOf, depthOf}
 use Rattle.bisection.specs.Refusals.{done, isPath}
 use Rattle.bisection.specs.Facets.{IsCell}
 use Rattle.bisection.specs.Theorems.Ladders.{held-at}
+use Rattle.bisection.specs.Theorems.Lists.{point-size}
 use Rattle.bisection.specs.Theorems.Checked.{each-at}
 use Rattle.bisection.specs.Theorems.Geometry.{closed-form}
 use Rattle.bisection.specs.Theorems.CodePaths.{one-path}
@@ -32,7 +33,6 @@ use Rattle.sheets.specs.Sheets.{SheetIs, good, record-refused, not-next, ended-
 use Rattle.sheets.specs.Theorems.Determined.{sheet-determined}
 use Rattle.sheets.specs.Theorems.Good.{same-cells}
 use Rattle.queries.specs.declared.LeafAnswer.{LeafAnswer}
-use Rattle.queries.specs.Writing.{bytes-length}
 use Rattle.finding.specs.Walk.{leaf-good}
 use Rattle.queries.specs.Queries.{LeafIs, LeafAt, LeafWeights, LeafOn, leaf-refused, leaf-found, leafTold, weightsLength, sideIn, ValueIs, ValueOn, value-refused, value-found}
 use Rattle.greys.specs.Fractions.{Fraction}
@@ -69,7 +69,8 @@ and-back root path before r after w e roots paths s roots' paths' c k =
     let o = one-path (p .code-of) (subst (λ (l : List ℕ). IsCodeOf l root path) (sym (front w e)) (path-good root path (length before) (sym (w .number) ∙ e))) in
     let f = root-front p in (f .0 ∙ o .0, f .1 ∙ o .1)
 
-and-forth : (code roots paths : List ℕ) (s : PathWritten) (roots' paths' : List ℕ) → CodeToPath code roots paths s roots' paths' → s .refusal ≡ done → (before : List ℕ) (r : Written) (after : List ℕ) → PathToCode (take (s .axes) roots') (take (s .depth) paths') before r after → r .refusal ≡ done
+and-forth : (code roots paths : List ℕ) (s : PathWritten) (roots' paths' : List ℕ) → CodeToPath code roots paths s roots' paths' → s .refusal ≡ done
+    → (before : List ℕ) (r : Written) (after : List ℕ) → PathToCode (take (s .axes) roots') (take (s .depth) paths') before r after → r .refusal ≡ done
     → take (r .length) after ≡ code
 and-forth code roots paths s roots' paths' c k before r after w e = let p = c .written (sym (c .number) ∙ k) in let f = root-front p in front w e ∙ (λ i. codeOf (f .0 i) (f .1 i)) ∙ sym (p .code-of .is)
 
@@ -108,7 +109,7 @@ good-yes sheet r s n g = let q = sheet-determined sheet r (told done 0 n) s (goo
 
 -- a weight for each vertex, two bytes each
 size : {sheet : List ℕ} {n : ℕ} (g : Good sheet n) {p : Point} {i : ℕ} {ws : List ℕ} → LeafAt (g .cells) p i → LeafWeights (g .cells) i p ws → length (pointBytes ws) ≡ weightsLength (g .dimension)
-size g {p} {i} {ws} a w = let c = leaf-good g i (a .number) in bytes-length ws ∙ ap (λ (m : ℕ). 2 * m) (w .count ∙ closed-form (leafIn (g .cells) i .root) (leafIn (g .cells) i .path) (c .0 .good-root) (c .0 .good-path .depth) .sized .size ∙ ap suc (c .1))
+size g {p} {i} {ws} a w = let c = leaf-good g i (a .number) in point-size ws ∙ ap (λ (m : ℕ). 2 * m) (w .count ∙ closed-form (leafIn (g .cells) i .root) (leafIn (g .cells) i .path) (c .0 .good-root) (c .0 .good-path .depth) .sized .size ∙ ap suc (c .1))
 
 leaf-there : (sheet point before : List ℕ) (r : LeafAnswer) (after : List ℕ) → LeafIs sheet point before r after → r .refusal ≡ done
     → (t : There sheet point) × (r .number ≡ t .number) × (take (r .length) after ≡ pointBytes (t .weights))

@@ -17,8 +17,8 @@ byte-of-requires c κs =
 
 returns-2 : tie.Need-returns-2
 returns-2 c =
-    let args = c .before .before .before .args in
-    negation-byte (args .e) (omega arith) _ (c .before .signed-of .ensures) (c .before .before .if1 .left) _ (c .byte-of .ensures)
+    let start : tie.Start = search in
+    negation-byte (start .args .e) (omega arith) _ (c .before .signed-of .ensures) (c .before .before .if1 .left) _ (c .byte-of .ensures)
 
 pub negate-spec : {M : Type 1} → statement M
 negate-spec =

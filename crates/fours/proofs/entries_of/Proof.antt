@@ -6,9 +6,8 @@ use Rattle.fours.proofs.entries_of.Tie as tie
 
 returns : tie.Need-returns
 returns c =
-    let args = c .before .before .before .before .before .args in
-    let pre = c .before .before .before .before .before .pre in
-    rw (c .before .entry-in .ensures, c .entry-in2 .ensures) (entries-are (args .bytes .now) (args .at) (args .d) (pre .0) (pre .1) (pre .2))
+    let start : tie.Start = search in
+    rw (c .before .entry-in .ensures, c .entry-in2 .ensures) (entries-are (start .args .bytes .now) (start .args .at) (start .args .d) (start .pre .0) (start .pre .1) (start .pre .2))
 
 pub entries-of-spec : {M : Type 1} → statement M
 entries-of-spec =

@@ -7,10 +7,10 @@ use Rattle.fours.proofs.own_of.Tie as tie
 
 returns : tie.Need-returns
 returns c =
-    let args = c .before .before .before .before .args in
-    let part-of = c .before .before .before .part-of in
-    let part-of2 = c .before .before .part-of2 in
-    own-is (args .e) _ (rw (part-of .ensures, part-of2 .ensures, c .before .part-of3 .ensures, c .part-of4 .ensures) refl)
+    let start : tie.Start = search in
+    let part-of : tie.After-part-of = search in
+    let part-of2 : tie.After-part-of2 = search in
+    own-is (start .args .e) _ (rw (part-of .part-of .ensures, part-of2 .part-of2 .ensures, c .before .part-of3 .ensures, c .part-of4 .ensures) refl)
 
 pub own-of-spec : {M : Type 1} → statement M
 own-of-spec =

@@ -13,9 +13,9 @@ use Rattle.fours.proofs.part_of.Tie as tie
 returns : tie.Need-returns
 unfolding partOf
 returns c =
-    let is-minus = c .before .before .is-minus in
-    let args = c .before .before .before .args in
-    rw (c .pick .ensures, is-minus .ensures, c .before .axis-of .ensures, shifted-bit (axis (args .e) % 8) (mod-lt (axis (args .e)) (omega arith))) refl
+    let start : tie.Start = search in
+    let is-minus : tie.After-is-minus = search in
+    rw (c .pick .ensures, is-minus .is-minus .ensures, c .before .axis-of .ensures, shifted-bit (axis (start .args .e) % 8) (mod-lt (axis (start .args .e)) (omega arith))) refl
 
 pub part-of-spec : {M : Type 1} → statement M
 part-of-spec =

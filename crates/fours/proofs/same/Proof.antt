@@ -5,11 +5,11 @@ use Rattle.fours.proofs.same.Tie as tie
 
 returns-4 : tie.Need-returns-4
 returns-4 c =
-    let args = c .before .before .before .before .before .before .before .before .before .before .before .args in
-    let if1 = c .before .before .before .before .before .before .before .before .if1 in
-    let if2 = c .before .before .before .before .before .if2 in
-    let if3 = c .before .before .if3 in
-    same-last (args .a) (args .b) (if1 .left) (if2 .left) (if3 .left)
+    let start : tie.Start = search in
+    let passed1 : tie.Else1 = search in
+    let passed2 : tie.Else2 = search in
+    let passed3 : tie.Else3 = search in
+    same-last (start .args .a) (start .args .b) (passed1 .if1 .left) (passed2 .if2 .left) (passed3 .if3 .left)
 
 pub same-spec : {M : Type 1} → statement M
 same-spec = tie.close

@@ -6,11 +6,12 @@ use Rattle.fours.proofs.step.Tie as tie
 
 returns : tie.Need-returns
 returns c =
-    let pick = c .before .before .before .pick in
-    let pick2 = c .before .before .pick2 in
-    let args = c .before .before .before .before .before .args in
-    let turned-on = c .before .before .before .before .turned-on in
-    rw (pick .ensures, pick2 .ensures, c .before .pick3 .ensures, c .pick4 .ensures) (step-is (args .e) (turned-on .result) (args .n) (args .which) (turned-on .ensures))
+    let start : tie.Start = search in
+    let turned-on : tie.After-turned-on = search in
+    let pick : tie.After-pick = search in
+    let pick2 : tie.After-pick2 = search in
+    rw (pick .pick .ensures, pick2 .pick2 .ensures, c .before .pick3 .ensures, c .pick4 .ensures)
+    (step-is (start .args .e) (turned-on .turned-on .result) (start .args .n) (start .args .which) (turned-on .turned-on .ensures))
 
 pub step-spec : {M : Type 1} → statement M
 step-spec =

@@ -8,12 +8,11 @@ use Rattle.fours.proofs.turned_back.Tie as tie
 
 returns : tie.Need-returns
 returns c =
-    let pick = c .before .before .pick in
-    let args = c .before .before .before .before .before .args in
-    let pre = c .before .before .before .before .before .pre in
-    let negate = c .before .before .before .negate in
-    let entry = c .before .before .before .before .entry in
-    rw (pick .ensures, c .before .pick2 .ensures, c .pick3 .ensures) (back-is (args .e) (args .n) _ pre (negate .ensures ∙ ap negated (entry .ensures)))
+    let start : tie.Start = search in
+    let entry : tie.After-entry = search in
+    let negate : tie.After-negate = search in
+    let pick : tie.After-pick = search in
+    rw (pick .pick .ensures, c .before .pick2 .ensures, c .pick3 .ensures) (back-is (start .args .e) (start .args .n) _ (start .pre) (negate .negate .ensures ∙ ap negated (entry .entry .ensures)))
 
 pub turned-back-spec : {M : Type 1} → statement M
 turned-back-spec =

@@ -6,14 +6,14 @@ use Rattle.fours.proofs.turned_on.Tie as tie
 
 returns : tie.Need-returns
 returns c =
-    let pick = c .before .before .before .before .before .pick in
-    let pick3 = c .before .before .before .pick3 in
-    let pick2 = c .before .before .before .before .pick2 in
-    let pick4 = c .before .before .pick4 in
-    let args = c .before .before .before .before .before .before .before .args in
-    let pre = c .before .before .before .before .before .before .before .pre in
-    let negate = c .before .before .before .before .before .before .negate in
-    rw (pick .ensures, pick3 .ensures, pick2 .ensures, c .before .pick5 .ensures, pick4 .ensures, c .pick6 .ensures) (on-is (args .e) (args .n) _ pre (negate .ensures))
+    let start : tie.Start = search in
+    let negate : tie.After-negate = search in
+    let pick : tie.After-pick = search in
+    let pick2 : tie.After-pick2 = search in
+    let pick3 : tie.After-pick3 = search in
+    let pick4 : tie.After-pick4 = search in
+    rw (pick .pick .ensures, pick3 .pick3 .ensures, pick2 .pick2 .ensures, c .before .pick5 .ensures, pick4 .pick4 .ensures, c .pick6 .ensures)
+    (on-is (start .args .e) (start .args .n) _ (start .pre) (negate .negate .ensures))
 
 pub turned-on-spec : {M : Type 1} → statement M
 turned-on-spec =

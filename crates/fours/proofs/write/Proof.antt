@@ -21,31 +21,28 @@ slice-write-out c =
 
 add-out-2 : tie.Need-add-out-2
 add-out-2 c =
-    let args = c .before .before .before .args in
-    let pre = c .before .before .before .pre in
-    omega (arith, c .place-in2 .ensures, place-within 2 (args .d) (omega arith), pre .2)
+    let start : tie.Start = search in
+    omega (arith, c .place-in2 .ensures, place-within 2 (start .args .d) (omega arith), start .pre .2)
 
 slice-write-out-2 : tie.Need-slice-write-out-2
 slice-write-out-2 c =
-    let args = c .before .before .before .args in
-    let pre = c .before .before .before .pre in
-    simp length-set (omega (arith, c .place-in2 .ensures, place-within 2 (args .d) (omega arith), pre .2))
+    let start : tie.Start = search in
+    simp length-set (omega (arith, c .place-in2 .ensures, place-within 2 (start .args .d) (omega arith), start .pre .2))
 
 slice-write-out-3 : tie.Need-slice-write-out-3
 slice-write-out-3 c =
-    let pre = c .before .before .before .pre in
-    simp length-set (omega (arith, pre .2))
+    let start : tie.Start = search in
+    simp length-set (omega (arith, start .pre .2))
 
 slice-write-out-4 : tie.Need-slice-write-out-4
 slice-write-out-4 c =
-    let pre = c .before .before .before .pre in
-    simp length-set (omega (arith, pre .2))
+    let start : tie.Start = search in
+    simp length-set (omega (arith, start .pre .2))
 
 returns : tie.Need-returns
 returns c =
-    let args = c .before .before .before .args in
-    let pre = c .before .before .before .pre in
-    rw (c .before .place-in .ensures, c .place-in2 .ensures) (written-are (args .out .now) (args .at) (args .d) (pre .0) (pre .1) (pre .2) (args .e))
+    let start : tie.Start = search in
+    rw (c .before .place-in .ensures, c .place-in2 .ensures) (written-are (start .args .out .now) (start .args .at) (start .args .d) (start .pre .0) (start .pre .1) (start .pre .2) (start .args .e))
 
 pub write-spec : {M : Type 1} → statement M
 write-spec =

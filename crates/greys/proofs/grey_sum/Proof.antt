@@ -16,8 +16,8 @@ abbrev μ-loop : tie.MeasureT-loop
 
 loop-holds : tie.Need-loop-holds Inv-loop μ-loop
 loop-holds c =
-    let s = c .before .before .before in
-    rw (c .size .ensures, c .before .axes .ensures) (summing-start (s .pre) (axes-range (s .args .dim) .few) (omega (arith, s .good)))
+    let start : tie.Start Inv-loop μ-loop = search in
+    rw (c .size .ensures, c .before .axes .ensures) (summing-start (start .pre) (axes-range (start .args .dim) .few) (omega (arith, start .good)))
 
 returns : tie.Need-returns Inv-loop μ-loop
 returns c = let s = c .before .before in summing-end (rw (s .size .ensures, s .before .axes .ensures) at (c .before .loop .inv)) (omega arith)

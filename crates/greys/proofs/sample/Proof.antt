@@ -14,15 +14,17 @@ abbrev μ-loop : tie.MeasureT-loop
 μ-loop samples width i end n₀ j₀ n j = width - j
 
 loop-again : tie.Need-loop-again Inv-loop μ-loop
-loop-again c = (
-  reading-next (c .before .before .before .loop .inv .0) (omega arith) (omega arith) (omega arith) (c .wide .ensures .0) (c .wide .ensures .1),
-  omega arith,
-)
+loop-again c =
+    let turn : tie.At-loop Inv-loop μ-loop = search in (
+      reading-next (turn .loop .inv .0) (omega arith) (omega arith) (omega arith) (c .wide .ensures .0) (c .wide .ensures .1),
+      omega arith,
+    )
 
 returns : tie.Need-returns Inv-loop μ-loop
 returns c =
-    let loop = c .before .loop in
-    let e : loop .j ≡ c .before .before .before .args .width = omega arith in (reading-end _ (rw e at (loop .inv .0)), loop .inv .0 .small)
+    let start : tie.Start Inv-loop μ-loop = search in
+    let turn : tie.At-loop Inv-loop μ-loop = search in
+    let e : turn .loop .j ≡ start .args .width = omega arith in (reading-end _ (rw e at (turn .loop .inv .0)), turn .loop .inv .0 .small)
 
 pub sample-spec : {M : Type 1} → statement M
 sample-spec =

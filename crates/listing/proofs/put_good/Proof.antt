@@ -13,40 +13,41 @@ record-parts-requires c κs =
 
 put-line-requires : tie.Need-put-line-requires
 put-line-requires c κs =
-    let record-parts = c .before .before .before .record-parts in
-    let start = c .before .before .before .before .before .before in
-    let is = c .size .ensures ∙ first-record (start .pre .0) .dimension-is _ (record-parts .ensures) in
+    let record-parts : tie.After-record-parts = search in
+    let start : tie.Start = search in
+    let is = c .size .ensures ∙ first-record (start .pre .0) .dimension-is _ (record-parts .record-parts .ensures) in
     first-fits _ _ refl (start .args .sheet .now) _ (start .args .out .now) (start .pre .0) (start .pre .1) _ is
 
 put-leaves-requires : tie.Need-put-leaves-requires
 put-leaves-requires c κs =
-    let size = c .before .before .before .before .size in
-    let record-parts = c .before .before .before .before .before .before .before .record-parts in
-    let start = c .before .before .before .before .before .before .before .before .before .before in
-    let put-line = c .before .before .before .put-line in
-    let is = size .ensures ∙ first-record (start .pre .0) .dimension-is _ (record-parts .ensures) in
-    (start .pre .0, leaves-fit _ _ refl (start .args .sheet .now) _ (start .args .out .now) (start .pre .0) (start .pre .1) _ is (put-line .ensures))
+    let put-line : tie.After-put-line = search in
+    let size : tie.After-size = search in
+    let record-parts : tie.After-record-parts = search in
+    let start : tie.Start = search in
+    let is = size .size .ensures ∙ first-record (start .pre .0) .dimension-is _ (record-parts .record-parts .ensures) in
+    (start .pre .0, leaves-fit _ _ refl (start .args .sheet .now) _ (start .args .out .now) (start .pre .0) (start .pre .1) _ is (put-line .put-line .ensures))
 
 put-line-requires-2 : tie.Need-put-line-requires-2
 put-line-requires-2 c κs =
-    let size = c .before .before .before .before .before .before .before .before .before .size in
-    let record-parts = c .before .before .before .before .before .before .before .before .before .before .before .before .record-parts in
-    let start = c .before .before .before .before .before .before .before .before .before .before .before .before .before .before .before in
-    let put-line = c .before .before .before .before .before .before .before .before .put-line in
-    let put-leaves = c .before .before .before .before .put-leaves in
-    let is = size .ensures ∙ first-record (start .pre .0) .dimension-is _ (record-parts .ensures) in
-    last-fits _ _ refl (start .args .sheet .now) _ (start .args .out .now) (start .pre .0) (start .pre .1) _ is (put-line .ensures) (put-leaves .ensures)
+    let put-leaves : tie.After-put-leaves = search in
+    let put-line : tie.After-put-line = search in
+    let size : tie.After-size = search in
+    let record-parts : tie.After-record-parts = search in
+    let start : tie.Start = search in
+    let is = size .size .ensures ∙ first-record (start .pre .0) .dimension-is _ (record-parts .record-parts .ensures) in
+    last-fits _ _ refl (start .args .sheet .now) _ (start .args .out .now) (start .pre .0) (start .pre .1) _ is (put-line .put-line .ensures) (put-leaves .put-leaves .ensures)
 
 returns : tie.Need-returns
 returns c =
-    let size = c .before .before .before .before .before .before .before .before .before .before .before .before .size in
-    let record-parts = c .before .before .before .before .before .before .before .before .before .before .before .before .before .before .before .record-parts in
-    let start = c .before .before .before .before .before .before .before .before .before .before .before .before .before .before .before .before .before .before in
-    let put-line = c .before .before .before .before .before .before .before .before .before .before .before .put-line in
-    let put-leaves = c .before .before .before .before .before .before .before .put-leaves in
-    let put-line2 = c .before .before .put-line2 in
-    let is = size .ensures ∙ first-record (start .pre .0) .dimension-is _ (record-parts .ensures) in
-    good-puts _ _ refl (start .args .sheet .now) _ (start .args .out .now) (start .pre .0) (start .pre .1) _ is (put-line .ensures) (put-leaves .ensures) (put-line2 .ensures)
+    let put-line2 : tie.After-put-line2 = search in
+    let put-leaves : tie.After-put-leaves = search in
+    let put-line : tie.After-put-line = search in
+    let size : tie.After-size = search in
+    let record-parts : tie.After-record-parts = search in
+    let start : tie.Start = search in
+    let is = size .size .ensures ∙ first-record (start .pre .0) .dimension-is _ (record-parts .record-parts .ensures) in
+    good-puts _ _ refl (start .args .sheet .now) _ (start .args .out .now) (start .pre .0) (start .pre .1) _ is
+    (put-line .put-line .ensures) (put-leaves .put-leaves .ensures) (put-line2 .put-line2 .ensures)
 
 pub put-good-spec : {M : Type 1} → statement M
 put-good-spec =

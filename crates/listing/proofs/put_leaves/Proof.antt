@@ -26,54 +26,54 @@ record-parts-requires c κs =
 
 add-code : tie.Need-add-code Inv-loop μ-loop
 add-code c =
-    let loop = c .before .before .before .loop in
-    let loop-test = c .before .before .loop-test in
-    omega (arith, on-line (loop .inv) (loop-test .taken) .code-fits _ (c .record-parts .ensures))
+    let turn : tie.At-loop Inv-loop μ-loop = search in
+    let test : tie.In-loop Inv-loop μ-loop = search in
+    omega (arith, on-line (turn .loop .inv) (test .loop-test .taken) .code-fits _ (c .record-parts .ensures))
 
 add-end : tie.Need-add-end Inv-loop μ-loop
 add-end c =
-    let loop = c .before .before .before .before .loop in
-    let loop-test = c .before .before .before .loop-test in
-    omega (arith, on-line (loop .inv) (loop-test .taken) .code-fits _ (c .before .record-parts .ensures))
+    let turn : tie.At-loop Inv-loop μ-loop = search in
+    let test : tie.In-loop Inv-loop μ-loop = search in
+    omega (arith, on-line (turn .loop .inv) (test .loop-test .taken) .code-fits _ (c .before .record-parts .ensures))
 
 part-put-leaf-end : tie.Need-part-put-leaf-end Inv-loop μ-loop
 part-put-leaf-end c =
-    let loop = c .before .before .before .before .before .loop in
-    let loop-test = c .before .before .before .before .loop-test in
-    let record-parts = c .before .before .record-parts in
-    omega (arith, on-line (loop .inv) (loop-test .taken) .code-fits _ (record-parts .ensures))
+    let turn : tie.At-loop Inv-loop μ-loop = search in
+    let test : tie.In-loop Inv-loop μ-loop = search in
+    let record-parts : tie.After-record-parts Inv-loop μ-loop = search in
+    omega (arith, on-line (turn .loop .inv) (test .loop-test .taken) .code-fits _ (record-parts .record-parts .ensures))
 
 put-leaf-requires : tie.Need-put-leaf-requires Inv-loop μ-loop
 put-leaf-requires c κs =
-    let loop = c .before .before .before .before .before .before .loop in
-    let loop-test = c .before .before .before .before .before .loop-test in
-    let record-parts = c .before .before .before .record-parts in
-    on-line (loop .inv) (loop-test .taken) .fits _ (record-parts .ensures)
+    let turn : tie.At-loop Inv-loop μ-loop = search in
+    let test : tie.In-loop Inv-loop μ-loop = search in
+    let record-parts : tie.After-record-parts Inv-loop μ-loop = search in
+    on-line (turn .loop .inv) (test .loop-test .taken) .fits _ (record-parts .record-parts .ensures)
 
 add-offset : tie.Need-add-offset Inv-loop μ-loop
 add-offset c =
-    let loop = c .before .before .before .before .before .before .before .before .before .before .loop in
-    let loop-test = c .before .before .before .before .before .before .before .before .before .loop-test in
-    let record-parts = c .before .before .before .before .before .before .before .record-parts in
-    omega (arith, on-line (loop .inv) (loop-test .taken) .whole-fits _ (record-parts .ensures))
+    let turn : tie.At-loop Inv-loop μ-loop = search in
+    let test : tie.In-loop Inv-loop μ-loop = search in
+    let record-parts : tie.After-record-parts Inv-loop μ-loop = search in
+    omega (arith, on-line (turn .loop .inv) (test .loop-test .taken) .whole-fits _ (record-parts .record-parts .ensures))
 
 loop-less : tie.Need-loop-less Inv-loop μ-loop
 loop-less c =
-    let loop-test = c .before .before .before .before .before .before .before .before .before .loop-test in
-    omega (arith, loop-test .taken)
+    let test : tie.In-loop Inv-loop μ-loop = search in
+    omega (arith, test .loop-test .taken)
 
 loop-again : tie.Need-loop-again Inv-loop μ-loop
 loop-again c =
-    let loop = c .before .before .before .before .before .before .before .before .before .before .loop in
-    let loop-test = c .before .before .before .before .before .before .before .before .before .loop-test in
-    let record-parts = c .before .before .before .before .before .before .before .record-parts in
-    let put-leaf = c .before .before .before .put-leaf in
-    on-line (loop .inv) (loop-test .taken) .next _ (record-parts .ensures) (put-leaf .ensures)
+    let turn : tie.At-loop Inv-loop μ-loop = search in
+    let test : tie.In-loop Inv-loop μ-loop = search in
+    let record-parts : tie.After-record-parts Inv-loop μ-loop = search in
+    let put-leaf : tie.After-put-leaf Inv-loop μ-loop = search in
+    on-line (turn .loop .inv) (test .loop-test .taken) .next _ (record-parts .record-parts .ensures) (put-leaf .put-leaf .ensures)
 
 returns : tie.Need-returns Inv-loop μ-loop
 returns c =
-    let pre = c .before .before .before .before .pre in
-    on-end (c .before .loop .inv) refl (pre .1 .wide) (omega (arith, c .loop-test .left)) (pre .1 .small)
+    let start : tie.Start Inv-loop μ-loop = search in
+    on-end (c .before .loop .inv) refl (start .pre .1 .wide) (omega (arith, c .loop-test .left)) (start .pre .1 .small)
 
 pub put-leaves-spec : {M : Type 1} → statement M
 put-leaves-spec =

@@ -18,28 +18,28 @@ abbrev μ-loop : tie.MeasureT-loop
 
 flip-requires : tie.Need-flip-requires Inv-loop μ-loop
 flip-requires c κs =
-    let pre = c .before .before .before .before .before .pre in
-    let axis-of = c .before .before .before .axis-of in
-    (omega (arith, pre .2, axis-of .ensures), omega (arith, pre .3, axis-of .ensures))
+    let start : tie.Start Inv-loop μ-loop = search in
+    let axis-of : tie.After-axis-of Inv-loop μ-loop = search in
+    (omega (arith, start .pre .2, axis-of .axis-of .ensures), omega (arith, start .pre .3, axis-of .axis-of .ensures))
 
 returns : tie.Need-returns Inv-loop μ-loop
 returns c =
-    let pre = c .before .before .before .before .before .before .before .before .pre in
-    let axis-of = c .before .before .before .before .before .before .axis-of in
-    let loop = c .before .before .before .before .before .loop in
-    carrying-stopped _ _ _ _ (pre .1) (loop .inv .3) (loop .t - 1) (omega arith) (loop .inv .1) _ _ (axis-of .ensures) (c .before .before .flip .ensures)
-    (sym (c .before .same-sign .ensures) ∙ not-true _ (c .if1 .taken)) _ (omega (arith, pre .0))
+    let start : tie.Start Inv-loop μ-loop = search in
+    let axis-of : tie.After-axis-of Inv-loop μ-loop = search in
+    let turn : tie.At-loop Inv-loop μ-loop = search in
+    carrying-stopped _ _ _ _ (start .pre .1) (turn .loop .inv .3) (turn .loop .t - 1) (omega arith) (turn .loop .inv .1) _ _ (axis-of .axis-of .ensures) (c .before .before .flip .ensures)
+    (sym (c .before .same-sign .ensures) ∙ not-true _ (c .if1 .taken)) _ (omega (arith, start .pre .0))
 
 loop-again : tie.Need-loop-again Inv-loop μ-loop
 loop-again c =
-    let pre = c .before .before .before .before .before .before .before .before .pre in
-    let axis-of = c .before .before .before .before .before .before .axis-of in
-    let loop = c .before .before .before .before .before .loop in (
+    let start : tie.Start Inv-loop μ-loop = search in
+    let axis-of : tie.After-axis-of Inv-loop μ-loop = search in
+    let turn : tie.At-loop Inv-loop μ-loop = search in (
       omega arith,
       omega arith,
-      simp length-set (loop .inv .2),
-      carrying-next _ _ _ _ (pre .1) (loop .inv .3) (loop .t - 1) (omega arith) (loop .inv .1) _ _
-          (axis-of .ensures) (c .before .before .flip .ensures) (sym (c .before .same-sign .ensures) ∙ not-false _ (c .if1 .left)),
+      simp length-set (turn .loop .inv .2),
+      carrying-next _ _ _ _ (start .pre .1) (turn .loop .inv .3) (turn .loop .t - 1) (omega arith) (turn .loop .inv .1) _ _
+          (axis-of .axis-of .ensures) (c .before .before .flip .ensures) (sym (c .before .same-sign .ensures) ∙ not-false _ (c .if1 .left)),
     )
 
 pub carry-spec : {M : Type 1} → statement M
@@ -51,13 +51,13 @@ carry-spec =
     (λ c κs. search needs)
     (λ c. (omega (arith, c .before .before .pre .0), omega arith, refl, carrying-none _ _ _ _ (c .before .before .pre .1)))
     (λ c. search needs)
-    (λ c. omega (arith, c .before .before .before .before .before .pre .1))
+    (λ c. let start : tie.Start Inv-loop μ-loop = search in omega (arith, start .pre .1))
     flip-requires
-    (λ c. omega (arith, c .before .before .before .before .before .before .pre .1))
-    (λ c κs. (c .before .before .before .before .before .before .pre .2, c .before .before .before .before .before .before .pre .3))
-    (λ c. simp length-set (c .before .before .before .before .before .loop .inv .2))
+    (λ c. let start : tie.Start Inv-loop μ-loop = search in omega (arith, start .pre .1))
+    (λ c κs. let start : tie.Start Inv-loop μ-loop = search in (start .pre .2, start .pre .3))
+    (λ c. let turn : tie.At-loop Inv-loop μ-loop = search in simp length-set (turn .loop .inv .2))
     returns
     (λ c. search needs)
     loop-again
     (λ c. c .before .loop .inv .2)
-    (λ c. carrying-all _ _ _ _ (c .before .before .before .before .pre .1) (c .before .loop .inv .3) _ (c .before .loop .inv .0) (c .loop-test .left)))
+    (λ c. let start : tie.Start Inv-loop μ-loop = search in carrying-all _ _ _ _ (start .pre .1) (c .before .loop .inv .3) _ (c .before .loop .inv .0) (c .loop-test .left)))

@@ -4,7 +4,7 @@ use native.Mathlib.Omega.{arith}
 use Rattle.bisection.specs.Codes.{minus, negated, turned}
 use Rattle.bisection.specs.Theorems.Entries.{unturned}
 use Rattle.bisection.specs.Theorems.Table.{newAt, exchanged, negatedAt, entriesBy}
-use Rattle.fours.specs.Words.{wordOf}
+use Rattle.entries.specs.Words.{wordOf}
 use Rattle.moves.specs.Rearranging.{within, rowOf, rowAt, past}
 use Rattle.moves.proofs.row.Statement.{statement}
 use Rattle.moves.proofs.row.Tie as tie

@@ -18,17 +18,17 @@ abbrev μ-loop : tie.MeasureT-loop
 
 returns : tie.Need-returns Inv-loop μ-loop
 returns c =
-    let loop = c .before .before .before .before .loop in
-    let the-loop-test = c .before .before .before .loop-test in
-    running-stopped _ _ _ (loop .inv .2) (loop .last - 1) (omega arith) (loop .inv .1) (sym (c .before .same-sign .ensures) ∙ not-true _ (c .if1 .taken)) _
-    (the-loop-test .taken)
+    let turn : tie.At-loop Inv-loop μ-loop = search in
+    let test : tie.In-loop Inv-loop μ-loop = search in
+    running-stopped _ _ _ (turn .loop .inv .2) (turn .loop .last - 1) (omega arith) (turn .loop .inv .1) (sym (c .before .same-sign .ensures) ∙ not-true _ (c .if1 .taken)) _
+    (test .loop-test .taken)
 
 loop-again : tie.Need-loop-again Inv-loop μ-loop
 loop-again c =
-    let loop = c .before .before .before .before .loop in (
+    let turn : tie.At-loop Inv-loop μ-loop = search in (
       omega arith,
       omega arith,
-      running-next _ _ _ (loop .inv .2) (loop .last - 1) (omega arith) (loop .inv .1)
+      running-next _ _ _ (turn .loop .inv .2) (turn .loop .last - 1) (omega arith) (turn .loop .inv .1)
           (sym (c .before .same-sign .ensures) ∙ not-false _ (c .if1 .left)),
     )
 
@@ -41,7 +41,7 @@ runs-out-spec =
     (λ c. (c .before .pre .0, omega arith, running-none _ _ _))
     (λ c. search needs)
     (λ c. search needs)
-    (λ c κs. (c .before .before .before .before .pre .1, c .before .before .before .before .pre .2))
+    (λ c κs. let start : tie.Start Inv-loop μ-loop = search in (start .pre .1, start .pre .2))
     returns
     (λ c. search needs)
     loop-again

@@ -7,18 +7,32 @@ use Rattle.queries.proofs.record_at.Tie as tie
 
 add-t13 : tie.Need-add-t13
 add-t13 c =
-    let down = c .before .before in let found = down .before .before in let way = found .before in let checked = way .before in
-    omega (arith, found .seek .ensures .long, choice-room (checked .before .before .before .pre) (checked .checked .ensures) (way .way-to .ensures) (found .seek .ensures) (down .descend .ensures) (c .code-length .ensures))
+    let start : tie.Start = search in
+    let checked : tie.After-checked = search in
+    let way : tie.After-way-to = search in
+    let found : tie.After-seek = search in
+    let down : tie.After-descend = search in
+    let room = choice-room (start .pre) (checked .checked .ensures) (way .way-to .ensures) (found .seek .ensures) (down .descend .ensures) (c .code-length .ensures) in
+    omega (arith, found .seek .ensures .long, room)
 
 add-t14 : tie.Need-add-t14
 add-t14 c =
-    let code = c .before in let down = code .before .before in let found = down .before .before in let way = found .before in let checked = way .before in
-    omega (arith, found .seek .ensures .long, choice-room (checked .before .before .before .pre) (checked .checked .ensures) (way .way-to .ensures) (found .seek .ensures) (down .descend .ensures) (code .code-length .ensures))
+    let start : tie.Start = search in
+    let checked : tie.After-checked = search in
+    let way : tie.After-way-to = search in
+    let found : tie.After-seek = search in
+    let down : tie.After-descend = search in
+    let room = choice-room (start .pre) (checked .checked .ensures) (way .way-to .ensures) (found .seek .ensures) (down .descend .ensures) (c .before .code-length .ensures) in
+    omega (arith, found .seek .ensures .long, room)
 
 returns : tie.Need-returns
 returns c =
-    let code = c .before in let down = code .before .before in let found = down .before .before in let way = found .before in let checked = way .before in
-    choice-is (checked .before .before .before .pre) (checked .checked .ensures) (way .way-to .ensures) (found .seek .ensures) (down .descend .ensures) (code .code-length .ensures)
+    let start : tie.Start = search in
+    let checked : tie.After-checked = search in
+    let way : tie.After-way-to = search in
+    let found : tie.After-seek = search in
+    let down : tie.After-descend = search in
+    choice-is (start .pre) (checked .checked .ensures) (way .way-to .ensures) (found .seek .ensures) (down .descend .ensures) (c .before .code-length .ensures)
 
 pub record-at-spec : {M : Type 1} → statement M
 record-at-spec =

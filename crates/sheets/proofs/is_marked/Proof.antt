@@ -7,14 +7,14 @@ use Rattle.sheets.proofs.is_marked.Tie as tie
 
 returns-2 : tie.Need-returns-2
 returns-2 c =
-    let args = c .before .before .before .before .args in
-    marked-first _ (args .edition .second) (args .bytes .now) (omega arith) (c .if2 .taken)
+    let start : tie.Start = search in
+    marked-first _ (start .args .edition .second) (start .args .bytes .now) (omega arith) (c .if2 .taken)
 
 returns-3 : tie.Need-returns-3
 returns-3 c =
-    let args = c .before .before .before .before .before .before .args in
-    let if2 = c .before .before .if2 in
-    marked-second _ _ (args .bytes .now) (omega arith) (if2 .left)
+    let start : tie.Start = search in
+    let passed : tie.Else2 = search in
+    marked-second _ _ (start .args .bytes .now) (omega arith) (passed .if2 .left)
 
 pub is-marked-spec : {M : Type 1} → statement M
 is-marked-spec =

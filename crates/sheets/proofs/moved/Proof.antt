@@ -8,30 +8,32 @@ use Rattle.sheets.proofs.moved.Tie as tie
 
 after-requires : tie.Need-after-requires
 after-requires c κs =
-    let checked = c .before .before .before .before .checked in
-    let pre = c .before .before .before .before .before .pre in
-    rw (checked .ensures) (pre .ready)
+    let start : tie.Start = search in
+    let checked : tie.After-checked = search in
+    rw (checked .checked .ensures) (start .pre .ready)
 
 returns : tie.Need-returns
 returns c =
-    let checked = c .before .before .before .before .before .before .before .checked in
-    let after = c .before .before .after in
-    let args = c .before .before .before .before .before .before .before .before .args in
-    let samples-length = c .before .before .before .before .before .before .samples-length in
-    on (rw (checked .ensures) at (after .ensures)) (c .before .if1 .taken)
-    (ap (λ (n : ℕ). stateOf (args .state .offset + (2 + (args .found .length + n))) (args .state .records + 1) (args .state .dimension) (args .state .root) (after .result .next))
-    (samples-length .ensures .0))
+    let start : tie.Start = search in
+    let checked : tie.After-checked = search in
+    let samples-length : tie.After-samples-length = search in
+    let after : tie.After-after = search in
+    let state = start .args .state in
+    on (rw (checked .checked .ensures) at (after .after .ensures)) (c .before .if1 .taken)
+    (ap (λ (n : ℕ). stateOf (state .offset + (2 + (start .args .found .length + n))) (state .records + 1) (state .dimension) (state .root) (after .after .result .next))
+    (samples-length .samples-length .ensures .0))
 
 returns-2 : tie.Need-returns-2
 returns-2 c =
-    let checked = c .before .before .before .before .before .before .before .before .checked in
-    let after = c .before .before .before .after in
-    let if1 = c .before .before .if1 in
-    let args = c .before .before .before .before .before .before .before .before .before .args in
-    let samples-length = c .before .before .before .before .before .before .before .samples-length in
-    over (rw (checked .ensures) at (after .ensures)) (if1 .left) (rw (checked .ensures) at (c .first .ensures))
-    (ap (λ (n : ℕ). stateOf (args .state .offset + (2 + (args .found .length + n))) (args .state .records + 1) (args .state .dimension) (args .state .root + 1) (c .first .result))
-    (samples-length .ensures .0))
+    let start : tie.Start = search in
+    let checked : tie.After-checked = search in
+    let samples-length : tie.After-samples-length = search in
+    let after : tie.After-after = search in
+    let passed : tie.Else1 = search in
+    let state = start .args .state in
+    over (rw (checked .checked .ensures) at (after .after .ensures)) (passed .if1 .left) (rw (checked .checked .ensures) at (c .first .ensures))
+    (ap (λ (n : ℕ). stateOf (state .offset + (2 + (start .args .found .length + n))) (state .records + 1) (state .dimension) (state .root + 1) (c .first .result))
+    (samples-length .samples-length .ensures .0))
 
 pub moved-spec : {M : Type 1} → statement M
 moved-spec =

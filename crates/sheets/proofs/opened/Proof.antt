@@ -9,43 +9,44 @@ use Rattle.sheets.proofs.opened.Tie as tie
 
 returns : tie.Need-returns
 returns c =
-    let args = c .before .before .before .before .args in
-    open-unmarked _ (args .sheet .now) _ (sym (c .before .is-marked .ensures) ∙ not-true _ (c .if1 .taken))
+    let start : tie.Start = search in
+    open-unmarked _ (start .args .sheet .now) _ (sym (c .before .is-marked .ensures) ∙ not-true _ (c .if1 .taken))
 
 code-head-requires : tie.Need-code-head-requires
 code-head-requires c κs =
-    let args = c .before .before .before .before .before .args in
-    let is-marked = c .before .before .is-marked in
-    rw (part-marked (args .edition .first) (args .edition .second) (args .sheet .now)) (marked-two _ _ (sym (is-marked .ensures) ∙ not-false _ (c .before .if1 .left)))
+    let start : tie.Start = search in
+    let is-marked : tie.After-is-marked = search in
+    rw (part-marked (start .args .edition .first) (start .args .edition .second) (start .args .sheet .now)) (marked-two _ _ (sym (is-marked .is-marked .ensures) ∙ not-false _ (c .before .if1 .left)))
 
 returns-2 : tie.Need-returns-2
 returns-2 c =
-    let is-marked = c .before .before .before .before .before .is-marked in
-    let if1 = c .before .before .before .before .if1 in
-    let args = c .before .before .before .before .before .before .before .before .args in
-    let code-head = c .before .before .code-head in
-    let marked = sym (is-marked .ensures) ∙ not-false _ (if1 .left) in
-    open-refused _ (args .sheet .now) _ marked _ (head-behind _ _ (args .sheet .now) (code-head .ensures)) (c .if2 .taken)
+    let start : tie.Start = search in
+    let is-marked : tie.After-is-marked = search in
+    let passed : tie.Else1 = search in
+    let code-head : tie.After-code-head = search in
+    let marked = sym (is-marked .is-marked .ensures) ∙ not-false _ (passed .if1 .left) in
+    open-refused _ (start .args .sheet .now) _ marked _ (head-behind _ _ (start .args .sheet .now) (code-head .code-head .ensures)) (c .if2 .taken)
 
 checked-requires : tie.Need-checked-requires
 checked-requires c κs =
-    let is-marked = c .before .before .before .before .before .is-marked in
-    let if1 = c .before .before .before .before .if1 in
-    let args = c .before .before .before .before .before .before .before .before .args in
-    let first = c .before .before .before .before .before .before .first in
-    let code-head = c .before .before .code-head in
-    let marked = sym (is-marked .ensures) ∙ not-false _ (if1 .left) in
-    open-known _ (args .sheet .now) (first .result) marked _ (head-behind _ _ (args .sheet .now) (code-head .ensures)) (c .if2 .left)
+    let start : tie.Start = search in
+    let first : tie.After-first = search in
+    let is-marked : tie.After-is-marked = search in
+    let passed : tie.Else1 = search in
+    let code-head : tie.After-code-head = search in
+    let marked = sym (is-marked .is-marked .ensures) ∙ not-false _ (passed .if1 .left) in
+    open-known _ (start .args .sheet .now) (first .first .result) marked _ (head-behind _ _ (start .args .sheet .now) (code-head .code-head .ensures)) (c .if2 .left)
 
 returns-3 : tie.Need-returns-3
 returns-3 c =
-    let is-marked = c .before .before .before .before .before .before .before .is-marked in
-    let if1 = c .before .before .before .before .before .before .if1 in
-    let args = c .before .before .before .before .before .before .before .before .before .before .args in
-    let code-head = c .before .before .before .before .code-head in
-    let if2 = c .before .before .if2 in
-    let marked = sym (is-marked .ensures) ∙ not-false _ (if1 .left) in
-    open-first _ (args .sheet .now) _ marked _ (head-behind _ _ (args .sheet .now) (code-head .ensures)) (if2 .left) _ (c .before .checked .ensures) (c .first2 .ensures)
+    let start : tie.Start = search in
+    let is-marked : tie.After-is-marked = search in
+    let passed1 : tie.Else1 = search in
+    let code-head : tie.After-code-head = search in
+    let passed2 : tie.Else2 = search in
+    let marked = sym (is-marked .is-marked .ensures) ∙ not-false _ (passed1 .if1 .left) in
+    open-first _ (start .args .sheet .now) _ marked _ (head-behind _ _ (start .args .sheet .now) (code-head .code-head .ensures))
+    (passed2 .if2 .left) _ (c .before .checked .ensures) (c .first2 .ensures)
 
 pub opened-spec : {M : Type 1} → statement M
 opened-spec =

@@ -14,19 +14,19 @@ code-head-requires c κs =
 
 add-t10 : tie.Need-add-t10
 add-t10 c =
-    let start = c .before .before .before .before in
+    let start : tie.Start = search in
     let head = head-behind (start .args .edition .first) (start .args .edition .second) (start .args .bytes .now) (c .before .code-head .ensures) in
     omega (arith, c .samples-length .ensures .0, parts-whole _ _ _ (start .pre) _ head, parts-inside _ _ _ (start .pre))
 
 add-t11 : tie.Need-add-t11
 add-t11 c =
-    let start = c .before .before .before .before in
+    let start : tie.Start = search in
     let head = head-behind (start .args .edition .first) (start .args .edition .second) (start .args .bytes .now) (c .before .code-head .ensures) in
     omega (arith, c .samples-length .ensures .0, parts-whole _ _ _ (start .pre) _ head, parts-inside _ _ _ (start .pre))
 
 returns : tie.Need-returns
 returns c =
-    let start = c .before .before .before .before in
+    let start : tie.Start = search in
     let head = head-behind (start .args .edition .first) (start .args .edition .second) (start .args .bytes .now) (c .before .code-head .ensures) in
     parts-are _ _ _ (start .pre) _ head _ (ap (λ (n : ℕ). 2 + (c .before .code-head .result .length + n)) (c .samples-length .ensures .0))
 

@@ -10,22 +10,22 @@ use Rattle.sheets.proofs.record_refusal.Tie as tie
 
 returns : tie.Need-returns
 returns c =
-    let args = c .before .before .before .args in
-    record-unmarked _ _ (args .bytes .now) (sym (c .before .is-marked .ensures) ∙ not-true _ (c .if1 .taken))
+    let start : tie.Start = search in
+    record-unmarked _ _ (start .args .bytes .now) (sym (c .before .is-marked .ensures) ∙ not-true _ (c .if1 .taken))
 
 body-refusal-requires : tie.Need-body-refusal-requires
 body-refusal-requires c κs =
-    let args = c .before .before .before .before .args in
-    let is-marked = c .before .before .is-marked in
-    rw (part-marked (args .edition .first) (args .edition .second) (args .bytes .now)) (marked-two _ _ (sym (is-marked .ensures) ∙ not-false _ (c .before .if1 .left)))
+    let start : tie.Start = search in
+    let is-marked : tie.After-is-marked = search in
+    rw (part-marked (start .args .edition .first) (start .args .edition .second) (start .args .bytes .now)) (marked-two _ _ (sym (is-marked .is-marked .ensures) ∙ not-false _ (c .before .if1 .left)))
 
 returns-2 : tie.Need-returns-2
 returns-2 c =
-    let args = c .before .before .before .before .before .args in
-    let is-marked = c .before .before .before .is-marked in
-    let if1 = c .before .before .if1 in
-    record-marked _ _ (args .bytes .now) (sym (is-marked .ensures) ∙ not-false _ (if1 .left)) _
-    (c .body-refusal .ensures ∙ ap (unmarkedRefusal (args .edition .width)) (part-marked (args .edition .first) (args .edition .second) (args .bytes .now)))
+    let start : tie.Start = search in
+    let is-marked : tie.After-is-marked = search in
+    let passed : tie.Else1 = search in
+    record-marked _ _ (start .args .bytes .now) (sym (is-marked .is-marked .ensures) ∙ not-false _ (passed .if1 .left)) _
+    (c .body-refusal .ensures ∙ ap (unmarkedRefusal (start .args .edition .width)) (part-marked (start .args .edition .first) (start .args .edition .second) (start .args .bytes .now)))
 
 pub record-refusal-spec : {M : Type 1} → statement M
 record-refusal-spec =

@@ -40,17 +40,18 @@ module _ (mark : List ℕ) (width : ℕ) where
         let o : a ≡ a′ = read-same (omega arith) r r′ in
         q ∙ ap (λ (a : ℕ). a + recordLength mark width (drop a sheet)) o ∙ sym q′
 
-    -- where the reading goes on, the record passes and is the next leaf
-    pub read-on : {at at′ n n′ : ℕ} → Read mark width sheet at n → Read mark width sheet at′ n′ → n < n′ → (recordRefusal mark width (drop at sheet) ≡ done) × Begins mark width (take (at + recordLength mark width (drop at sheet)) sheet)
+    -- the record at an offset passes and is the next leaf
+    abbrev pub Goes-on : ℕ → Type 0
+    Goes-on at = (recordRefusal mark width (drop at sheet) ≡ done) × Begins mark width (take (at + recordLength mark width (drop at sheet)) sheet)
+
+    -- so it is wherever the reading has gone on
+    pub read-on : {at at′ n n′ : ℕ} → Read mark width sheet at n → Read mark width sheet at′ n′ → n < n′ → Goes-on at
     read-on r start h = absurd (omega arith)
     read-on {at} {n = n} r (next {at = a} {n = m} {to = to} r′ x q b) h = go (decLt n m) (read-on r r′)
       where
-        same : (a : ℕ) → at ≡ a → recordRefusal mark width (drop a sheet) ≡ done → Begins mark width (take (a + recordLength mark width (drop a sheet)) sheet) → (recordRefusal mark width (drop at sheet) ≡ done) × Begins mark width (take (at + recordLength mark width (drop at sheet)) sheet)
-        same a e x b = (rw e x, rw e b)
-
-        go : Dec (n < m) → (n < m → (recordRefusal mark width (drop at sheet) ≡ done) × Begins mark width (take (at + recordLength mark width (drop at sheet)) sheet)) → (recordRefusal mark width (drop at sheet) ≡ done) × Begins mark width (take (at + recordLength mark width (drop at sheet)) sheet)
+        go : Dec (n < m) → (n < m → Goes-on at) → Goes-on at
         go (yes l) ih = ih l
-        go (no l) ih = same a (read-same (omega arith) r r′) x (subst (λ (t : ℕ). Begins mark width (take t sheet)) q b)
+        go (no l) ih = subst Goes-on (read-same (omega arith) r′ r) (x, subst (λ (t : ℕ). Begins mark width (take t sheet)) q b)
 
     -- a good sheet is read to its end
     read-all : {m : ℕ} → GoodSheet mark width sheet m → {d : ℕ} {cs : List TreeCell} {rest : List ℕ} {at n : ℕ} → CellsIn d cs → Records mark width d cs rest → Read mark width sheet at n → at ≤ length sheet → drop at sheet ≡ rest → Read mark width sheet (length sheet) (n + length cs)

@@ -7,13 +7,13 @@ use Rattle.steps.proofs.put_box.Tie as tie
 
 slice-write-code : tie.Need-slice-write-code
 slice-write-code c =
-    let pre = c .before .before .before .pre in
-    pre .room (c .before .if1 .left)
+    let start : tie.Start = search in
+    start .pre .room (c .before .if1 .left)
 
 add-result : tie.Need-add-result
 add-result c =
-    let pre = c .before .before .before .pre in
-    let h = pre .room (c .before .if1 .left) in omega (arith, h)
+    let start : tie.Start = search in
+    let h = start .pre .room (c .before .if1 .left) in omega (arith, h)
 
 pub put-box-spec : {M : Type 1} → statement M
 put-box-spec =

@@ -9,60 +9,61 @@ use Rattle.steps.proofs.write_child.Tie as tie
 
 entries-of-requires : tie.Need-entries-of-requires
 entries-of-requires c κs =
-    let pre = c .before .before .before .before .pre in
-    child-entries pre (c .before .axes .ensures)
+    let start : tie.Start = search in
+    child-entries (start .pre) (c .before .axes .ensures)
 
 step-requires : tie.Need-step-requires
 step-requires c κs =
-    let pre = c .before .before .before .before .before .pre in
-    let axes = c .before .before .axes in
-    child-few pre (axes .ensures) (c .before .split-place .ensures) (c .entries-of .ensures)
+    let axes : tie.After-axes = search in
+    let start : tie.Start = search in
+    child-few (start .pre) (axes .axes .ensures) (c .before .split-place .ensures) (c .entries-of .ensures)
 
 shared-slice-read-out : tie.Need-shared-slice-read-out
 shared-slice-read-out c =
-    let pre = c .before .before .before .before .before .before .before .before .before .before .before .pre in
-    omega (arith, child-front pre)
+    let start : tie.Start = search in
+    omega (arith, child-front (start .pre))
 
 slice-write-out : tie.Need-slice-write-out
 slice-write-out c =
-    let out = c .before .before .out in
-    let pre = c .before .before .before .before .before .before .before .before .before .before .before .pre in
-    omega (arith, out .given, child-front pre)
+    let out : tie.After-out = search in
+    let start : tie.Start = search in
+    omega (arith, out .out .given, child-front (start .pre))
 
 write-requires : tie.Need-write-requires
 write-requires c κs =
-    let pre = c .before .before .before .before .before .before .before .before .before .before .before .before .pre in
-    let axes = c .before .before .before .before .before .before .before .before .before .axes in
-    let out = c .before .before .before .out in
-    child-over pre (axes .ensures) (simp length-set (out .given))
+    let out : tie.After-out = search in
+    let axes : tie.After-axes = search in
+    let start : tie.Start = search in
+    child-over (start .pre) (axes .axes .ensures) (simp length-set (out .out .given))
 
 put-box-requires : tie.Need-put-box-requires
 put-box-requires c κs =
-    let pre = c .before .before .before .before .before .before .before .before .before .before .before .before .before .before .before .before .pre in
-    let axes = c .before .before .before .before .before .before .before .before .before .before .before .before .before .axes in
-    let split-place = c .before .before .before .before .before .before .before .before .before .before .before .before .split-place in
-    let entries-of = c .before .before .before .before .before .before .before .before .before .before .before .entries-of in
-    let out2 = c .before .before .out2 in
-    let out = c .before .before .before .before .before .before .before .out in
-    child-box pre (axes .ensures) (split-place .ensures) (entries-of .ensures) _ (out2 .given ∙ simp length-set (out .given))
+    let out2 : tie.After-out2 = search in
+    let out : tie.After-out = search in
+    let entries-of : tie.After-entries-of = search in
+    let split-place : tie.After-split-place = search in
+    let axes : tie.After-axes = search in
+    let start : tie.Start = search in
+    child-box (start .pre) (axes .axes .ensures) (split-place .split-place .ensures) (entries-of .entries-of .ensures) _ (out2 .out2 .given ∙ simp length-set (out .out .given))
 
 same-length : tie.Need-same-length
 same-length c =
-    let out2 = c .before .before .before .before .before .out2 in
-    let out = c .before .before .before .before .before .before .before .before .before .before .out in
-    c .before .out3 .given ∙ (out2 .given ∙ simp length-set (out .given))
+    let out2 : tie.After-out2 = search in
+    let out : tie.After-out = search in
+    c .before .out3 .given ∙ (out2 .out2 .given ∙ simp length-set (out .out .given))
 
 returns : tie.Need-returns
 returns c =
-    let pre = c .before .before .before .before .before .before .before .before .before .before .before .before .before .before .before .before .before .before .before .pre in
-    let axes = c .before .before .before .before .before .before .before .before .before .before .before .before .before .before .before .before .axes in
-    let split-place = c .before .before .before .before .before .before .before .before .before .before .before .before .before .before .before .split-place in
-    let entries-of = c .before .before .before .before .before .before .before .before .before .before .before .before .before .before .entries-of in
-    let step = c .before .before .before .before .before .before .before .before .before .before .before .before .before .step in
-    let copy-front = c .before .before .before .before .before .before .before .before .before .before .before .copy-front in
-    let write = c .before .before .before .before .before .before .write in
-    let put-box = c .before .before .put-box in
-    child-written pre (axes .ensures) (split-place .ensures) (entries-of .ensures) _ (step .ensures) (copy-front .ensures) refl (write .ensures) (put-box .ensures)
+    let put-box : tie.After-put-box = search in
+    let write : tie.After-write = search in
+    let copy-front : tie.After-copy-front = search in
+    let step : tie.After-step = search in
+    let entries-of : tie.After-entries-of = search in
+    let split-place : tie.After-split-place = search in
+    let axes : tie.After-axes = search in
+    let start : tie.Start = search in
+    child-written (start .pre) (axes .axes .ensures) (split-place .split-place .ensures) (entries-of .entries-of .ensures) _
+    (step .step .ensures) (copy-front .copy-front .ensures) refl (write .write .ensures) (put-box .put-box .ensures)
 
 pub write-child-spec : {M : Type 1} → statement M
 write-child-spec =

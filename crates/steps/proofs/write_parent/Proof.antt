@@ -20,95 +20,97 @@ sub-k c =
 
 sub-k-2 : tie.Need-sub-k-2
 sub-k-2 c =
-    let args = c .before .before .before .before .before .args in
-    let axes = c .before .before .axes in
-    split-rest _ _ _ _ (omega (arith, axes-range (args .dim) .two)) (axes .ensures) (c .before .box-depth .ensures)
+    let axes : tie.After-axes = search in
+    let start : tie.Start = search in
+    split-rest _ _ _ _ (omega (arith, axes-range (start .args .dim) .two)) (axes .axes .ensures) (c .before .box-depth .ensures)
 
-entries-of-requires : tie.Need-entries-of-requires
-entries-of-requires c κs =
-    let pre = c .before .before .before .before .before .pre in
-    let axes = c .before .before .axes in
-    parent-entries pre (axes .ensures) (c .before .box-depth .ensures)
+word-in-requires : tie.Need-word-in-requires
+word-in-requires c κs =
+    let axes : tie.After-axes = search in
+    let start : tie.Start = search in
+    parent-entries (start .pre) (axes .axes .ensures) (c .before .box-depth .ensures)
 
 sub-unstep : tie.Need-sub-unstep
 sub-unstep c =
-    let pre = c .before .before .before .before .before .before .pre in
-    let axes = c .before .before .before .axes in
-    let box-depth = c .before .before .box-depth in
-    parent-some pre (axes .ensures) (box-depth .ensures)
+    let box-depth : tie.After-box-depth = search in
+    let axes : tie.After-axes = search in
+    let start : tie.Start = search in
+    parent-some (start .pre) (axes .axes .ensures) (box-depth .box-depth .ensures)
 
 unstep-requires : tie.Need-unstep-requires
 unstep-requires c κs =
-    let pre = c .before .before .before .before .before .before .pre in
-    let axes = c .before .before .before .axes in
-    let box-depth = c .before .before .box-depth in
-    parent-ready pre (axes .ensures) (box-depth .ensures) (c .entries-of .ensures)
+    let box-depth : tie.After-box-depth = search in
+    let axes : tie.After-axes = search in
+    let start : tie.Start = search in
+    parent-ready (start .pre) (axes .axes .ensures) (box-depth .box-depth .ensures) (c .word-in .ensures)
 
 add-copy-front : tie.Need-add-copy-front
 add-copy-front c =
-    let pre = c .before .before .before .before .before .before .before .pre in
-    let axes = c .before .before .before .before .axes in
-    let box-depth = c .before .before .before .box-depth in
-    omega (arith, parent-own pre (axes .ensures) (box-depth .ensures))
+    let box-depth : tie.After-box-depth = search in
+    let axes : tie.After-axes = search in
+    let start : tie.Start = search in
+    omega (arith, parent-own (start .pre) (axes .axes .ensures) (box-depth .box-depth .ensures))
 
 add-copy-front-2 : tie.Need-add-copy-front-2
 add-copy-front-2 c =
-    let pre = c .before .before .before .before .before .before .before .pre in
-    let axes = c .before .before .before .before .axes in
-    let box-depth = c .before .before .before .box-depth in
-    omega (arith, parent-own pre (axes .ensures) (box-depth .ensures))
+    let box-depth : tie.After-box-depth = search in
+    let axes : tie.After-axes = search in
+    let start : tie.Start = search in
+    omega (arith, parent-own (start .pre) (axes .axes .ensures) (box-depth .box-depth .ensures))
 
 copy-front-requires : tie.Need-copy-front-requires
 copy-front-requires c κs =
-    let pre = c .before .before .before .before .before .before .before .before .pre in
-    let axes = c .before .before .before .before .before .axes in
-    let box-depth = c .before .before .before .before .box-depth in
-    parent-front pre (axes .ensures) (box-depth .ensures)
+    let box-depth : tie.After-box-depth = search in
+    let axes : tie.After-axes = search in
+    let start : tie.Start = search in
+    parent-front (start .pre) (axes .axes .ensures) (box-depth .box-depth .ensures)
 
 shared-slice-read-out : tie.Need-shared-slice-read-out
 shared-slice-read-out c =
-    let pre = c .before .before .before .before .before .before .before .before .before .before .before .before .pre in
-    let axes = c .before .before .before .before .before .before .before .before .before .axes in
-    let box-depth = c .before .before .before .before .before .before .before .before .box-depth in
-    omega (arith, parent-own pre (axes .ensures) (box-depth .ensures))
+    let box-depth : tie.After-box-depth = search in
+    let axes : tie.After-axes = search in
+    let start : tie.Start = search in
+    omega (arith, parent-own (start .pre) (axes .axes .ensures) (box-depth .box-depth .ensures))
 
 sub-out : tie.Need-sub-out
 sub-out c =
-    let pre = c .before .before .before .before .before .before .before .before .before .before .before .before .pre in
-    parent-byte pre
+    let start : tie.Start = search in
+    parent-byte (start .pre)
 
 slice-write-out : tie.Need-slice-write-out
 slice-write-out c =
-    let out = c .before .before .out in
-    let pre = c .before .before .before .before .before .before .before .before .before .before .before .before .pre in
-    let axes = c .before .before .before .before .before .before .before .before .before .axes in
-    let box-depth = c .before .before .before .before .before .before .before .before .box-depth in
-    omega (arith, out .given, parent-front pre (axes .ensures) (box-depth .ensures))
+    let out : tie.After-out = search in
+    let box-depth : tie.After-box-depth = search in
+    let axes : tie.After-axes = search in
+    let start : tie.Start = search in
+    omega (arith, out .out .given, parent-front (start .pre) (axes .axes .ensures) (box-depth .box-depth .ensures))
 
 write-requires : tie.Need-write-requires
 write-requires c κs =
-    let pre = c .before .before .before .before .before .before .before .before .before .before .before .before .before .pre in
-    let axes = c .before .before .before .before .before .before .before .before .before .before .axes in
-    let box-depth = c .before .before .before .before .before .before .before .before .before .box-depth in
-    let out = c .before .before .before .out in
-    parent-over pre (axes .ensures) (box-depth .ensures) (simp length-set (out .given))
+    let out : tie.After-out = search in
+    let box-depth : tie.After-box-depth = search in
+    let axes : tie.After-axes = search in
+    let start : tie.Start = search in
+    parent-over (start .pre) (axes .axes .ensures) (box-depth .box-depth .ensures) (simp length-set (out .out .given))
 
 same-length : tie.Need-same-length
 same-length c =
-    let out = c .before .before .before .before .before .before .out in
-    c .before .out2 .given ∙ simp length-set (out .given)
+    let out : tie.After-out = search in
+    c .before .out2 .given ∙ simp length-set (out .out .given)
 
 returns : tie.Need-returns
 returns c =
-    let pre = c .before .before .before .before .before .before .before .before .before .before .before .before .before .before .before .before .pre in
-    let axes = c .before .before .before .before .before .before .before .before .before .before .before .before .before .axes in
-    let box-depth = c .before .before .before .before .before .before .before .before .before .before .before .before .box-depth in
-    let entries-of = c .before .before .before .before .before .before .before .before .before .before .entries-of in
-    let own-of = c .before .before .before .before .before .before .before .before .before .before .before .own-of in
-    let unstep = c .before .before .before .before .before .before .before .before .before .unstep in
-    let copy-front = c .before .before .before .before .before .before .before .copy-front in
-    let write = c .before .before .write in
-    parent-written pre (axes .ensures) (box-depth .ensures) (entries-of .ensures) (own-of .ensures) (unstep .ensures) (copy-front .ensures) refl (write .ensures)
+    let write : tie.After-write = search in
+    let entries : tie.After-four-in = search in
+    let copy-front : tie.After-copy-front = search in
+    let unstep : tie.After-unstep = search in
+    let word-in : tie.After-word-in = search in
+    let own-of : tie.After-own-of = search in
+    let box-depth : tie.After-box-depth = search in
+    let axes : tie.After-axes = search in
+    let start : tie.Start = search in
+    parent-written (start .pre) (axes .axes .ensures) (box-depth .box-depth .ensures) (word-in .word-in .ensures)
+    (own-of .own-of .ensures) (unstep .unstep .ensures) (copy-front .copy-front .ensures) refl (entries .four-in .ensures) (write .write .ensures)
 
 pub write-parent-spec : {M : Type 1} → statement M
 write-parent-spec =
@@ -120,7 +122,7 @@ write-parent-spec =
     mul-k
     sub-k
     sub-k-2
-    entries-of-requires
+    word-in-requires
     sub-unstep
     unstep-requires
     add-copy-front
@@ -129,6 +131,7 @@ write-parent-spec =
     shared-slice-read-out
     sub-out
     slice-write-out
+    (λ c κs. search needs)
     write-requires
     same-length
     returns)

@@ -7,11 +7,16 @@ use Rattle.ways.proofs.coordinate_at.Statement.{statement}
 use Rattle.ways.proofs.coordinate_at.Tie as tie
 
 mul-result : tie.Need-mul-result
-mul-result c = let a = c .before .before .before .before .before .args .axis in omega (arith, c .wide2 .ensures, c .before .shared-slice-known3 .given (2 * (a - 1) + 1))
+mul-result c =
+    let start : tie.Start = search in
+    let a = start .args .axis in omega (arith, c .wide2 .ensures, c .before .shared-slice-known3 .given (2 * (a - 1) + 1))
 
 add-result : tie.Need-add-result
-add-result c = let a = c .before .before .before .before .before .args .axis in
-    omega (arith, c .wide2 .ensures, c .before .shared-slice-known3 .given (2 * (a - 1) + 1), c .before .before .wide .ensures, c .before .before .before .shared-slice-known2 .given (2 * (a - 1)))
+add-result c =
+    let start : tie.Start = search in
+    let shared-slice-known2 : tie.After-shared-slice-known2 = search in
+    let a = start .args .axis in
+    omega (arith, c .wide2 .ensures, c .before .shared-slice-known3 .given (2 * (a - 1) + 1), c .before .before .wide .ensures, shared-slice-known2 .shared-slice-known2 .given (2 * (a - 1)))
 
 returns : tie.Need-returns
 returns c = rw (c .wide2 .ensures, c .before .before .wide .ensures) (coordinate-bytes _ _ (omega arith) (omega arith))

@@ -7,16 +7,20 @@ use Rattle.ways.proofs.height_at.Statement.{statement}
 use Rattle.ways.proofs.height_at.Tie as tie
 
 entry-requires : tie.Need-entry-requires
-entry-requires c κs = let s = c .before .before .before .before in (s .pre .small, omega (arith, axes-range (s .args .dim)))
+entry-requires c κs =
+    let start : tie.Start = search in
+    (start .pre .small, omega (arith, axes-range (start .args .dim)))
 
 coordinate-at-requires : tie.Need-coordinate-at-requires
 coordinate-at-requires c κs =
-    let s = c .before .before .before .before .before .before in entry-axis (s .pre) (s .args .j) (omega arith) (omega arith) (c .size .ensures) (c .before .entry .ensures)
+    let start : tie.Start = search in
+    entry-axis (start .pre) (start .args .j) (omega arith) (omega arith) (c .size .ensures) (c .before .entry .ensures)
 
 returns-3 : tie.Need-returns-3
 returns-3 c =
-    let s = c .before .before .before .before .before .before .before in
-    let entry = c .before .before .entry in height-entry (s .pre) (s .args .j) (omega arith) (omega arith) (c .before .size .ensures) (entry .ensures) (c .coordinate-at .ensures)
+    let start : tie.Start = search in
+    let entry : tie.After-entry = search in
+    height-entry (start .pre) (start .args .j) (omega arith) (omega arith) (c .before .size .ensures) (entry .entry .ensures) (c .coordinate-at .ensures)
 
 pub height-at-spec : {M : Type 1} → statement M
 height-at-spec =

@@ -16,8 +16,9 @@ abbrev μ-loop : tie.MeasureT-loop
 
 loop-again : tie.Need-loop-again Inv-loop μ-loop
 loop-again c =
-    let side = c .before .before .before .before .side in
-    rw add-one (test-next (c .before .before .before .loop .inv) (omega arith) (side .ensures) (c .before .coordinate-at .ensures) (omega arith))
+    let side : tie.After-side Inv-loop μ-loop = search in
+    let turn : tie.At-loop Inv-loop μ-loop = search in
+    rw add-one (test-next (turn .loop .inv) (omega arith) (side .side .ensures) (c .before .coordinate-at .ensures) (omega arith))
 
 pub is-point-spec : {M : Type 1} → statement M
 is-point-spec =

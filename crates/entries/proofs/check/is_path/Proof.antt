@@ -21,8 +21,8 @@ is-path-spec =
     μ-loop
     (λ c. (omega arith, steps-none _))
     (λ c. search needs)
-    (λ c. steps-fail (c .before .before .before .loop .inv .1) (c .before .before .loop-test .taken) (c .if1 .taken))
+    (λ c. let turn : tie.At-loop Inv-loop μ-loop = search in steps-fail (turn .loop .inv .1) (c .before .before .loop-test .taken) (c .if1 .taken))
     (λ c. search needs)
     (λ c. search needs)
-    (λ c. (omega arith, steps-next (c .before .before .before .loop .inv .1) (c .if1 .left)))
+    (λ c. let turn : tie.At-loop Inv-loop μ-loop = search in (omega arith, steps-next (turn .loop .inv .1) (c .if1 .left)))
     (λ c. steps-all (c .before .loop .inv .1) (c .before .loop .inv .0) (omega arith)))

@@ -16,10 +16,15 @@ abbrev μ-loop : tie.MeasureT-loop
 μ-loop root i₀ i = length root - i
 
 returns-2 : tie.Need-returns-2 Inv-loop μ-loop
-returns-2 c = plain-fail (c .before .before .before .before .loop .inv .1) (c .before .before .before .loop-test .taken) (sym (c .before .is-minus .ensures) ∙ c .if2 .taken)
+returns-2 c =
+    let turn : tie.At-loop Inv-loop μ-loop = search in
+    let test : tie.In-loop Inv-loop μ-loop = search in
+    plain-fail (turn .loop .inv .1) (test .loop-test .taken) (sym (c .before .is-minus .ensures) ∙ c .if2 .taken)
 
 returns-3 : tie.Need-returns-3 Inv-loop μ-loop
-returns-3 c = plain-all (c .before .loop .inv .1) (sym (c .before .before .before .permuted .ensures) ∙ not-false _ (c .before .before .if1 .left)) (c .before .loop .inv .0) (omega arith)
+returns-3 c =
+    let permuted : tie.After-permuted Inv-loop μ-loop = search in
+    plain-all (c .before .loop .inv .1) (sym (permuted .permuted .ensures) ∙ not-false _ (c .before .before .if1 .left)) (c .before .loop .inv .0) (omega arith)
 
 pub is-root-spec : {M : Type 1} → statement M
 is-root-spec =
@@ -35,5 +40,5 @@ is-root-spec =
     returns-2
     (λ c. search needs)
     (λ c. search needs)
-    (λ c. (omega arith, plain-next (c .before .before .before .before .loop .inv .1) (sym (c .before .is-minus .ensures) ∙ c .if2 .left)))
+    (λ c. let turn : tie.At-loop Inv-loop μ-loop = search in (omega arith, plain-next (turn .loop .inv .1) (sym (c .before .is-minus .ensures) ∙ c .if2 .left)))
     returns-3)

@@ -1,53 +1,43 @@
--- `orthants_fit` meets its contract. The loop keeps: what is or-ed so far fits just where the bytes before i do.
-use mathlib.Core.Path.{sym, ap, _∙_}
-use Prim.Native.Nat.{ℕ, _+_, _-_}
-use lib.ListN.{length, getD, drop, length-drop}
+-- `orthants_fit` meets its contract. The loop keeps: what is or-ed so far fits just where the orthants before i do.
+use mathlib.Core.Path.{_∙_}
+use Prim.Native.Nat.{_+_, _-_}
+use lib.ListN.{length, drop, length-drop}
 use native.Mathlib.Omega.{arith}
 use Rattle.dimension.specs.Sizes.{halvings}
-use Rattle.entries.specs.Walks.{place-within, Fitting, fitting-none, fitting-next, fitting-all, fitting-empty, at-place}
+use Rattle.entries.specs.Fitting.{FitSoFar, fit-none, fit-next, fit-all, fit-empty}
 use borrow.Author.Needs.{needs}
 use Rattle.entries.proofs.check.orthants_fit.Statement.{statement}
 use Rattle.entries.proofs.check.orthants_fit.Tie as tie
 
 abbrev Inv-loop : tie.InvT-loop
-Inv-loop code d first boxes any₀ i₀ any i = Fitting d boxes (drop (2 + d) code) i any
+Inv-loop code d first any₀ i₀ any i = FitSoFar d (drop (2 + d) code) i any
 
 abbrev μ-loop : tie.MeasureT-loop
-μ-loop code d first boxes any₀ i₀ any i = halvings - i
+μ-loop code d first any₀ i₀ any i = halvings - i
 
 returns : tie.Need-returns Inv-loop μ-loop
 returns c =
-    let args = c .before .before .args in
-    fitting-empty (args .d) (drop (2 + args .d) (args .code .now)) (length-drop (2 + args .d) (args .code .now) ∙ c .if1 .taken)
+    let start : tie.Start Inv-loop μ-loop = search in
+    fit-empty (start .args .d) (drop (2 + start .args .d) (start .args .code .now)) (length-drop (2 + start .args .d) (start .args .code .now) ∙ omega (arith, c .if1 .taken))
 
-add-any : tie.Need-add-any Inv-loop μ-loop
-add-any c =
-    let args = c .before .before .before .before .before .args in
-    let pre = c .before .before .before .before .before .pre in
-    let if1 = c .before .before .before .if1 in
-    let n : ℕ = length (args .code .now) - (2 + args .d) in omega
-    (arith, c .place-in .ensures, place-within (c .before .before .loop .i) n (omega (arith, if1 .left)), pre .0, pre .2)
-
-shared-slice-read-any : tie.Need-shared-slice-read-any Inv-loop μ-loop
-shared-slice-read-any c =
-    let args = c .before .before .before .before .before .before .args in
-    let if1 = c .before .before .before .before .if1 in
-    let loop = c .before .before .before .loop in
-    let n : ℕ = length (args .code .now) - (2 + args .d) in omega (arith, c .before .place-in .ensures, place-within (loop .i) n (omega (arith, if1 .left)))
-
-loop-again : tie.Need-loop-again Inv-loop μ-loop
-loop-again c =
-    let code = c .before .before .before .before .before .before .args .code .now in
-    let d = c .before .before .before .before .before .before .args .d in
-    fitting-next (c .before .before .before .loop .inv) (omega (arith, c .before .before .before .before .if1 .left)) _
-    (at-place code (2 + d) (c .before .place-in .result) ∙ ap (λ (x : ℕ). getD (drop (2 + d) code) x 0) (c .before .place-in .ensures))
+orthants-from-requires : tie.Need-orthants-from-requires Inv-loop μ-loop
+unfolding halvings
+orthants-from-requires c κs =
+    let start : tie.Start Inv-loop μ-loop = search in
+    let passed : tie.Else1 Inv-loop μ-loop = search in
+    (omega (arith, start .pre), omega (arith, start .pre, passed .if1 .left), omega (arith, start .pre, c .loop-test .taken))
 
 returns-2 : tie.Need-returns-2 Inv-loop μ-loop
 unfolding halvings
 returns-2 c =
-    let args = c .before .before .before .before .args in
-    let pre = c .before .before .before .before .pre in
-    fitting-all (c .before .loop .inv) (sym (length-drop (2 + args .d) (args .code .now))) (omega (arith, c .loop-test .left, pre .2))
+    let start : tie.Start Inv-loop μ-loop = search in
+    let turn : tie.At-loop Inv-loop μ-loop = search in
+    let ended : tie.After-loop Inv-loop μ-loop = search in
+    let first : tie.After-byte Inv-loop μ-loop = search in
+    let second : tie.After-byte2 Inv-loop μ-loop = search in
+    let third : tie.After-byte3 Inv-loop μ-loop = search in
+    fit-all (turn .loop .inv) (first .byte .ensures) (second .byte2 .ensures) (third .byte3 .ensures) (c .byte4 .ensures)
+    (omega (arith, length-drop (2 + start .args .d) (start .args .code .now), ended .loop-test .left, start .pre))
 
 pub orthants-fit-spec : {M : Type 1} → statement M
 orthants-fit-spec =
@@ -55,16 +45,17 @@ orthants-fit-spec =
     (tie.spec
     Inv-loop
     μ-loop
-    (λ c. omega (arith, c .before .pre .0))
-    (λ c. c .before .pre .1)
-    returns
-    (λ c. fitting-none _ _ _)
-    (λ c κs. search needs)
-    add-any
-    shared-slice-read-any
     (λ c. search needs)
-    (λ c. unfold halvings in omega (arith, c .before .before .loop-test .taken))
-    loop-again
-    (λ c. omega (arith, c .before .before .before .before .pre .0))
-    (λ c. c .before .before .before .before .pre .0)
+    returns
+    (λ c. fit-none _ _)
+    orthants-from-requires
+    (λ c. unfold halvings in omega (arith, c .before .loop-test .taken))
+    (λ c. unfold halvings in omega (arith, c .before .loop-test .taken))
+    (λ c. fit-next (c .before .before .loop .inv) (c .orthants-from .ensures))
+    (λ c κs. search needs)
+    (λ c κs. search needs)
+    (λ c κs. search needs)
+    (λ c κs. search needs)
+    (λ c. search needs)
+    (λ c. search needs)
     returns-2)

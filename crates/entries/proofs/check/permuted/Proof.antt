@@ -19,31 +19,35 @@ abbrev μ-loop : tie.MeasureT-loop
 
 add-mark-of : tie.Need-add-mark-of Inv-loop μ-loop
 add-mark-of c =
-    let start = c .before .before .before .before in
+    let start : tie.Start Inv-loop μ-loop = search in
     omega (arith, c .place-in .ensures, place-within (c .before .before .loop .i) (start .args .d) (start .pre .0), start .pre .2)
 
 shared-slice-read-mark-of : tie.Need-shared-slice-read-mark-of Inv-loop μ-loop
 shared-slice-read-mark-of c =
-    let start = c .before .before .before .before .before in
-    let loop = c .before .before .before .loop in
-    omega (arith, c .before .place-in .ensures, place-within (loop .i) (start .args .d) (start .pre .0), start .pre .2)
+    let start : tie.Start Inv-loop μ-loop = search in
+    let turn : tie.At-loop Inv-loop μ-loop = search in
+    omega (arith, c .before .place-in .ensures, place-within (turn .loop .i) (start .args .d) (start .pre .0), start .pre .2)
 
 loop-again : tie.Need-loop-again Inv-loop μ-loop
 loop-again c =
-    let s = c .before .before .before .before .before .before .args .s .now in
-    let at = c .before .before .before .before .before .before .args .at in
-    let d = c .before .before .before .before .before .before .args .d in
+    let start : tie.Start Inv-loop μ-loop = search in
+    let turn : tie.At-loop Inv-loop μ-loop = search in
+    let s = start .args .s .now in
+    let at = start .args .at in
+    let d = start .args .d in
     let j = c .before .before .place-in .result in
-    let l : j < d = omega (arith, c .before .before .place-in .ensures, place-within (c .before .before .before .before .loop .i) d (c .before .before .before .before .before .before .pre .0)) in
-    rw (c .mark-of .ensures) (marked-next (c .before .before .before .before .loop .inv) (c .before .before .before .before .before .before .pre .0) _
+    let l : j < d = omega (arith, c .before .before .place-in .ensures, place-within (turn .loop .i) d (start .pre .0)) in
+    rw (c .mark-of .ensures) (marked-next (turn .loop .inv) (start .pre .0) _
     (entry-at s at d j l ∙ ap (λ (x : ℕ). getD (take d (drop at s)) x 0) (c .before .before .place-in .ensures)))
 
 sub-result : tie.Need-sub-result Inv-loop μ-loop
-sub-result c = rw (shifted-bit (c .before .before .before .args .d) (omega (arith, c .before .before .before .pre .1))) (pow-pos (c .before .before .before .args .d))
+sub-result c =
+    let start : tie.Start Inv-loop μ-loop = search in
+    rw (shifted-bit (start .args .d) (omega (arith, start .pre .1))) (pow-pos (start .args .d))
 
 returns : tie.Need-returns Inv-loop μ-loop
 returns c =
-    let start = c .before .before .before in
+    let start : tie.Start Inv-loop μ-loop = search in
     permuted-at (start .args .s .now) (start .args .at) (start .args .d) (c .before .loop .i) (c .before .loop .seen) (start .pre .2) (start .pre .1) (omega (arith, c .loop-test .left, start .pre .1))
     (c .before .loop .inv)
 
@@ -59,9 +63,9 @@ permuted-spec =
     shared-slice-read-mark-of
     (λ c κs. search needs)
     (λ c. search needs)
-    (λ c. omega (arith, c .before .before .before .loop-test .taken))
+    (λ c. let test : tie.In-loop Inv-loop μ-loop = search in omega (arith, test .loop-test .taken))
     loop-again
-    (λ c. omega (arith, c .before .before .before .pre .1))
-    (λ c. omega (arith, c .before .before .before .pre .1))
+    (λ c. let start : tie.Start Inv-loop μ-loop = search in omega (arith, start .pre .1))
+    (λ c. let start : tie.Start Inv-loop μ-loop = search in omega (arith, start .pre .1))
     sub-result
     returns)

@@ -9,15 +9,15 @@ use Rattle.entries.proofs.check.same_sign.Tie as tie
 
 returns : tie.Need-returns
 returns c =
-    let args = c .before .before .before .before .args in
-    let axis-of = c .before .before .before .axis-of in
-    (c .before .before .is-high .ensures ∙ ap (high (args .own)) (axis-of .ensures)) ∙ same-minus _ _ (sym (c .before .is-minus .ensures) ∙ c .if1 .taken)
+    let start : tie.Start = search in
+    let axis-of : tie.After-axis-of = search in
+    (c .before .before .is-high .ensures ∙ ap (high (start .args .own)) (axis-of .axis-of .ensures)) ∙ same-minus _ _ (sym (c .before .is-minus .ensures) ∙ c .if1 .taken)
 
 returns-2 : tie.Need-returns-2
 returns-2 c =
-    let args = c .before .before .before .before .args in
-    let axis-of = c .before .before .before .axis-of in
-    ap not (c .before .before .is-high .ensures ∙ ap (high (args .own)) (axis-of .ensures)) ∙ same-plus _ _ (sym (c .before .is-minus .ensures) ∙ c .if1 .left)
+    let start : tie.Start = search in
+    let axis-of : tie.After-axis-of = search in
+    ap not (c .before .before .is-high .ensures ∙ ap (high (start .args .own)) (axis-of .axis-of .ensures)) ∙ same-plus _ _ (sym (c .before .is-minus .ensures) ∙ c .if1 .left)
 
 pub same-sign-spec : {M : Type 1} → statement M
 same-sign-spec =

@@ -17,40 +17,40 @@ abbrev μ-loop : tie.MeasureT-loop
 
 add-same-sign : tie.Need-add-same-sign Inv-loop μ-loop
 add-same-sign c =
-    let start = c .before .before .before .before in
+    let start : tie.Start Inv-loop μ-loop = search in
     omega (arith, c .place-in .ensures, place-within (c .before .before .loop .i) (start .args .k) (start .pre .0), start .pre .1)
 
 shared-slice-read-same-sign : tie.Need-shared-slice-read-same-sign Inv-loop μ-loop
 shared-slice-read-same-sign c =
-    let start = c .before .before .before .before .before in
-    let loop = c .before .before .before .loop in
-    omega (arith, c .before .place-in .ensures, place-within (loop .i) (start .args .k) (start .pre .0), start .pre .2)
+    let start : tie.Start Inv-loop μ-loop = search in
+    let turn : tie.At-loop Inv-loop μ-loop = search in
+    omega (arith, c .before .place-in .ensures, place-within (turn .loop .i) (start .args .k) (start .pre .0), start .pre .2)
 
 same-sign-requires : tie.Need-same-sign-requires Inv-loop μ-loop
 same-sign-requires c κs =
-    let start = c .before .before .before .before .before in
-    let loop = c .before .before .before .loop in
-    let l : c .before .place-in .result < start .args .k = omega (arith, c .before .place-in .ensures, place-within (loop .i) (start .args .k) (start .pre .0)) in
+    let start : tie.Start Inv-loop μ-loop = search in
+    let turn : tie.At-loop Inv-loop μ-loop = search in
+    let l : c .before .place-in .result < start .args .k = omega (arith, c .before .place-in .ensures, place-within (turn .loop .i) (start .args .k) (start .pre .0)) in
     (start .pre .3 .low (c .before .place-in .result) l, start .pre .3 .high (c .before .place-in .result) l)
 
 returns : tie.Need-returns Inv-loop μ-loop
 returns c =
-    let start = c .before .before .before .before .before .before .before in
-    let loop = c .before .before .before .before .before .loop in
-    let place-in = c .before .before .before .place-in in
+    let start : tie.Start Inv-loop μ-loop = search in
+    let turn : tie.At-loop Inv-loop μ-loop = search in
+    let place-in : tie.After-place-in Inv-loop μ-loop = search in
     let code = start .args .code .now in
-    up-to-fail (drop 2 code) (start .args .own) (start .args .k) (loop .i) (start .pre .0)
-    (ap (signTest (drop 2 code) (start .args .own)) (sym (place-in .ensures)) ∙ rw (← at-place code 2 (place-in .result))
+    up-to-fail (drop 2 code) (start .args .own) (start .args .k) (turn .loop .i) (start .pre .0)
+    (ap (signTest (drop 2 code) (start .args .own)) (sym (place-in .place-in .ensures)) ∙ rw (← at-place code 2 (place-in .place-in .result))
     (sym (c .before .same-sign .ensures) ∙ not-true _ (c .if1 .taken)))
 
 loop-again : tie.Need-loop-again Inv-loop μ-loop
 loop-again c =
-    let args = c .before .before .before .before .before .before .before .args in
-    let loop = c .before .before .before .before .before .loop in
-    let place-in = c .before .before .before .place-in in
-    let code = args .code .now in
-    up-to-next (loop .inv)
-    (ap (signTest (drop 2 code) (args .own)) (sym (place-in .ensures)) ∙ rw (← at-place code 2 (place-in .result))
+    let start : tie.Start Inv-loop μ-loop = search in
+    let turn : tie.At-loop Inv-loop μ-loop = search in
+    let place-in : tie.After-place-in Inv-loop μ-loop = search in
+    let code = start .args .code .now in
+    up-to-next (turn .loop .inv)
+    (ap (signTest (drop 2 code) (start .args .own)) (sym (place-in .place-in .ensures)) ∙ rw (← at-place code 2 (place-in .place-in .result))
     (sym (c .before .same-sign .ensures) ∙ not-false _ (c .if1 .left)))
 
 pub signs-by-spec : {M : Type 1} → statement M
@@ -66,6 +66,6 @@ signs-by-spec =
     same-sign-requires
     returns
     (λ c. search needs)
-    (λ c. omega (arith, c .before .before .before .before .loop-test .taken))
+    (λ c. let test : tie.In-loop Inv-loop μ-loop = search in omega (arith, test .loop-test .taken))
     loop-again
-    (λ c. up-to-all (c .before .loop .inv) (omega (arith, c .before .before .before .pre .1, c .loop-test .left))))
+    (λ c. let start : tie.Start Inv-loop μ-loop = search in up-to-all (c .before .loop .inv) (omega (arith, start .pre .1, c .loop-test .left))))

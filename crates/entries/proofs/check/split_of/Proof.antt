@@ -8,7 +8,7 @@ use Rattle.entries.proofs.check.split_of.Tie as tie
 
 mul-result : tie.Need-mul-result
 mul-result c =
-    let start = c .before .before .before in
+    let start : tie.Start = search in
     record { fits = omega (arith, split-read (start .args .code .now) (start .args .d) (start .pre) (c .size .ensures) .under) }
 
 pub split-of-spec : {M : Type 1} → statement M
@@ -20,6 +20,6 @@ split-of-spec =
     (λ c. omega (arith, split-read (c .before .before .args .code .now) (c .before .before .args .d) (c .before .before .pre) refl .long))
     (λ c κs. search needs)
     mul-result
-    (λ c. split-read _ _ (c .before .before .before .pre) (c .size .ensures) .under)
-    (λ c. split-read _ _ (c .before .before .before .pre) (c .size .ensures) .few)
-    (λ c. split-read _ _ (c .before .before .before .pre) (c .size .ensures) .is))
+    (λ c. let start : tie.Start = search in split-read _ _ (start .pre) (c .size .ensures) .under)
+    (λ c. let start : tie.Start = search in split-read _ _ (start .pre) (c .size .ensures) .few)
+    (λ c. let start : tie.Start = search in split-read _ _ (start .pre) (c .size .ensures) .is))

@@ -8,9 +8,9 @@ use Rattle.listing.proofs.text.put.Tie as tie
 
 returns : tie.Need-returns
 returns c =
-    let copy = c .before .before .copy in
-    let args = c .before .before .before .before .before .before .args in
-    record { next = refl; is = copy .ensures ∙ put-copy (args .at) _ (args .bytes .now) (args .out .now) refl }
+    let start : tie.Start = search in
+    let copy : tie.After-copy = search in
+    record { next = refl; is = copy .copy .ensures ∙ put-copy (start .args .at) _ (start .args .bytes .now) (start .args .out .now) refl }
 
 pub put-spec : {M : Type 1} → statement M
 put-spec = tie.close

@@ -10,16 +10,17 @@ use Rattle.listing.proofs.text.put_decimal.Tie as tie
 
 put-requires : tie.Need-put-requires
 put-requires c κs =
-    let decimal = c .before .before .decimal in
-    let start = c .before .before .before .before .before in
-    rw (decimal .ensures .1 .1 ∙ decimal-is (start .args .n) (decimal .result) (decimal .ensures .1 .0)) (start .pre)
+    let start : tie.Start = search in
+    let decimal : tie.After-decimal = search in
+    rw (decimal .decimal .ensures .1 .1 ∙ decimal-is (start .args .n) (decimal .decimal .result) (decimal .decimal .ensures .1 .0)) (start .pre)
 
 returns : tie.Need-returns
 returns c =
-    let args = c .before .before .before .before .before .before .before .before .args in
-    let put = c .before .before .put in
-    let decimal = c .before .before .before .before .before .decimal in
-    subst (λ (t : List ℕ). Puts (args .at) t (args .out .now) (put .result) (put .last .0)) (decimal .ensures .1 .1 ∙ decimal-is (args .n) (decimal .result) (decimal .ensures .1 .0)) (put .ensures)
+    let start : tie.Start = search in
+    let decimal : tie.After-decimal = search in
+    let put : tie.After-put = search in
+    subst (λ (t : List ℕ). Puts (start .args .at) t (start .args .out .now) (put .put .result) (put .put .last .0))
+    (decimal .decimal .ensures .1 .1 ∙ decimal-is (start .args .n) (decimal .decimal .result) (decimal .decimal .ensures .1 .0)) (put .put .ensures)
 
 pub put-decimal-spec : {M : Type 1} → statement M
 put-decimal-spec =

@@ -17,13 +17,22 @@ loop-holds : tie.Need-loop-holds Inv-loop μ-loop
 loop-holds c = hexing-start (c .before .before .args .at) (c .before .before .args .bytes .now) (c .before .before .args .out .now) (c .before .before .pre)
 
 add-out : tie.Need-add-out Inv-loop μ-loop
-add-out c = omega (arith, hexing-room (c .before .before .before .before .loop .inv) (c .before .before .before .loop-test .taken), c .before .before .before .before .loop .inv .putting .size)
+add-out c =
+    let turn : tie.At-loop Inv-loop μ-loop = search in
+    let test : tie.In-loop Inv-loop μ-loop = search in
+    omega (arith, hexing-room (turn .loop .inv) (test .loop-test .taken), turn .loop .inv .putting .size)
 
 add-to : tie.Need-add-to Inv-loop μ-loop
-add-to c = omega (arith, hexing-room (c .before .before .before .before .loop .inv) (c .before .before .before .loop-test .taken), c .before .before .before .before .loop .inv .putting .size)
+add-to c =
+    let turn : tie.At-loop Inv-loop μ-loop = search in
+    let test : tie.In-loop Inv-loop μ-loop = search in
+    omega (arith, hexing-room (turn .loop .inv) (test .loop-test .taken), turn .loop .inv .putting .size)
 
 loop-again : tie.Need-loop-again Inv-loop μ-loop
-loop-again c = hexing-next (c .before .before .before .before .loop .inv) (c .before .before .before .loop-test .taken) _ _ (c .before .digit .ensures) (c .digit2 .ensures)
+loop-again c =
+    let turn : tie.At-loop Inv-loop μ-loop = search in
+    let test : tie.In-loop Inv-loop μ-loop = search in
+    hexing-next (turn .loop .inv) (test .loop-test .taken) _ _ (c .before .digit .ensures) (c .digit2 .ensures)
 
 pub put-hex-spec : {M : Type 1} → statement M
 put-hex-spec =
@@ -34,13 +43,13 @@ put-hex-spec =
     loop-holds
     (λ c. c .before .loop-test .taken)
     (λ c κs. omega (arith, c .shared-slice-known2 .given (c .before .before .loop .i)))
-    (λ c. omega (arith, hexing-room (c .before .before .before .loop .inv) (c .before .before .loop-test .taken)))
+    (λ c. let turn : tie.At-loop Inv-loop μ-loop = search in omega (arith, hexing-room (turn .loop .inv) (c .before .before .loop-test .taken)))
     (λ c κs. omega arith)
     add-out
-    (λ c. simp length-set (omega (arith, hexing-room (c .before .before .before .before .loop .inv) (c .before .before .before .loop-test .taken))))
+    (λ c. let turn : tie.At-loop Inv-loop μ-loop = search in let test : tie.In-loop Inv-loop μ-loop = search in simp length-set (omega (arith, hexing-room (turn .loop .inv) (test .loop-test .taken))))
     add-to
     (λ c. search needs)
-    (λ c. omega (arith, c .before .before .before .loop-test .taken))
+    (λ c. let test : tie.In-loop Inv-loop μ-loop = search in omega (arith, test .loop-test .taken))
     loop-again
     (λ c. c .before .loop .inv .putting .size)
     (λ c. hexing-end (c .before .loop .inv) (omega (arith, c .loop-test .left))))

@@ -1,43 +1,47 @@
 -- `put_leaf` meets its contract: four texts, one behind the other.
-use Rattle.listing.specs.Lines.{leaf-fits}
+use Rattle.listing.specs.Lines.{LeafLine, leaf-fits}
 use borrow.Author.Needs.{needs}
 use Rattle.listing.proofs.text.put_leaf.Statement.{statement}
 use Rattle.listing.proofs.text.put_leaf.Tie as tie
 
+-- each text has room, and together they are the line
+texts : (s : tie.Start) → LeafLine (s .args .at) (s .args .number) (s .args .code .now) (s .args .out .now)
+texts s = leaf-fits (s .args .at) (s .args .number) (s .args .code .now) (s .args .out .now) (s .pre)
+
 put-decimal-requires : tie.Need-put-decimal-requires
 put-decimal-requires c κs =
-    let start = c .before .before .before in
-    leaf-fits (start .args .at) (start .args .number) (start .args .code .now) (start .args .out .now) (start .pre) .first
+    let start : tie.Start = search in
+    texts start .first
 
 put-requires : tie.Need-put-requires
 put-requires c κs =
-    let start = c .before .before .before .before .before .before .before .before in
-    let put-decimal = c .before .before .before .before .put-decimal in
-    leaf-fits (start .args .at) (start .args .number) (start .args .code .now) (start .args .out .now) (start .pre) .second (put-decimal .ensures)
+    let start : tie.Start = search in
+    let put-decimal : tie.After-put-decimal = search in
+    texts start .second (put-decimal .put-decimal .ensures)
 
 put-hex-requires : tie.Need-put-hex-requires
 put-hex-requires c κs =
-    let start = c .before .before .before .before .before .before .before .before .before .before .before .before in
-    let put-decimal = c .before .before .before .before .before .before .before .before .put-decimal in
-    let put = c .before .before .before .put in
-    leaf-fits (start .args .at) (start .args .number) (start .args .code .now) (start .args .out .now) (start .pre) .third (put-decimal .ensures) (put .ensures)
+    let start : tie.Start = search in
+    let put-decimal : tie.After-put-decimal = search in
+    let put : tie.After-put = search in
+    texts start .third (put-decimal .put-decimal .ensures) (put .put .ensures)
 
 put-requires-2 : tie.Need-put-requires-2
 put-requires-2 c κs =
-    let start = c .before .before .before .before .before .before .before .before .before .before .before .before .before .before .before .before .before in
-    let put-decimal = c .before .before .before .before .before .before .before .before .before .before .before .before .before .put-decimal in
-    let put = c .before .before .before .before .before .before .before .before .put in
-    let put-hex = c .before .before .before .before .put-hex in
-    leaf-fits (start .args .at) (start .args .number) (start .args .code .now) (start .args .out .now) (start .pre) .fourth (put-decimal .ensures) (put .ensures) (put-hex .ensures)
+    let start : tie.Start = search in
+    let put-decimal : tie.After-put-decimal = search in
+    let put : tie.After-put = search in
+    let put-hex : tie.After-put-hex = search in
+    texts start .fourth (put-decimal .put-decimal .ensures) (put .put .ensures) (put-hex .put-hex .ensures)
 
 returns : tie.Need-returns
 returns c =
-    let start = c .before .before .before .before .before .before .before .before .before .before .before .before .before .before .before .before .before .before .before .before in
-    let put-decimal = c .before .before .before .before .before .before .before .before .before .before .before .before .before .before .before .before .put-decimal in
-    let put = c .before .before .before .before .before .before .before .before .before .before .before .put in
-    let put-hex = c .before .before .before .before .before .before .before .put-hex in
-    let put2 = c .before .before .put2 in
-    leaf-fits (start .args .at) (start .args .number) (start .args .code .now) (start .args .out .now) (start .pre) .whole (put-decimal .ensures) (put .ensures) (put-hex .ensures) (put2 .ensures)
+    let start : tie.Start = search in
+    let put-decimal : tie.After-put-decimal = search in
+    let put : tie.After-put = search in
+    let put-hex : tie.After-put-hex = search in
+    let put2 : tie.After-put2 = search in
+    texts start .whole (put-decimal .put-decimal .ensures) (put .put .ensures) (put-hex .put-hex .ensures) (put2 .put2 .ensures)
 
 pub put-leaf-spec : {M : Type 1} → statement M
 put-leaf-spec =

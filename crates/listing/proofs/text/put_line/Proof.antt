@@ -1,35 +1,39 @@
 -- `put_line` meets its contract: three texts, one behind the other.
 use Prim.Native.Nat.{_-_}
-use Rattle.listing.specs.Lines.{number-fits}
+use Rattle.listing.specs.Lines.{NumberLine, number-fits}
 use borrow.Author.Needs.{needs}
 use Rattle.listing.proofs.text.put_line.Statement.{statement}
 use Rattle.listing.proofs.text.put_line.Tie as tie
 
+-- each text has room, and together they are the line
+texts : (s : tie.Start) → NumberLine (s .args .at) (s .args .word .now) (s .args .n) (s .args .out .now)
+texts s = number-fits (s .args .at) (s .args .word .now) (s .args .n) (s .args .out .now) (s .pre)
+
 put-requires : tie.Need-put-requires
 put-requires c κs =
-    let start = c .before .before .before in
-    number-fits (start .args .at) (start .args .word .now) (start .args .n) (start .args .out .now) (start .pre) .first
+    let start : tie.Start = search in
+    texts start .first
 
 put-decimal-requires : tie.Need-put-decimal-requires
 put-decimal-requires c κs =
-    let start = c .before .before .before .before .before .before .before in
-    let put = c .before .before .before .put in
-    number-fits (start .args .at) (start .args .word .now) (start .args .n) (start .args .out .now) (start .pre) .second (put .ensures)
+    let start : tie.Start = search in
+    let put : tie.After-put = search in
+    texts start .second (put .put .ensures)
 
 put-requires-2 : tie.Need-put-requires-2
 put-requires-2 c κs =
-    let start = c .before .before .before .before .before .before .before .before .before .before .before .before in
-    let put = c .before .before .before .before .before .before .before .before .put in
-    let put-decimal = c .before .before .before .before .put-decimal in
-    number-fits (start .args .at) (start .args .word .now) (start .args .n) (start .args .out .now) (start .pre) .third (put .ensures) (put-decimal .ensures)
+    let start : tie.Start = search in
+    let put : tie.After-put = search in
+    let put-decimal : tie.After-put-decimal = search in
+    texts start .third (put .put .ensures) (put-decimal .put-decimal .ensures)
 
 returns : tie.Need-returns
 returns c =
-    let start = c .before .before .before .before .before .before .before .before .before .before .before .before .before .before .before in
-    let put = c .before .before .before .before .before .before .before .before .before .before .before .put in
-    let put-decimal = c .before .before .before .before .before .before .before .put-decimal in
-    let put2 = c .before .before .put2 in
-    number-fits (start .args .at) (start .args .word .now) (start .args .n) (start .args .out .now) (start .pre) .whole (put .ensures) (put-decimal .ensures) (put2 .ensures)
+    let start : tie.Start = search in
+    let put : tie.After-put = search in
+    let put-decimal : tie.After-put-decimal = search in
+    let put2 : tie.After-put2 = search in
+    texts start .whole (put .put .ensures) (put-decimal .put-decimal .ensures) (put2 .put2 .ensures)
 
 pub put-line-spec : {M : Type 1} → statement M
 put-line-spec =

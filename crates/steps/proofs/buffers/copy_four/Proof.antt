@@ -9,9 +9,8 @@ use Rattle.steps.proofs.buffers.copy_four.Tie as tie
 
 returns : tie.Need-returns
 returns c =
-    let args = c .before .before .before .before .args in
-    let pre = c .before .before .before .before .pre in
-    copies-four (args .at) (args .src .now) (args .dst .now) (pre .1)
+    let start : tie.Start = search in
+    copies-four (start .args .at) (start .args .src .now) (start .args .dst .now) (start .pre .1)
 
 pub copy-four-spec : {M : Type 1} → statement M
 copy-four-spec =

@@ -18,32 +18,31 @@ abbrev μ-loop : tie.MeasureT-loop
 
 copy-four-requires : tie.Need-copy-four-requires Inv-loop μ-loop
 copy-four-requires c κs =
-    let args = c .before .before .before .before .before .before .args in
-    let pre = c .before .before .before .before .before .before .pre in
-    let loop = c .before .before .before .loop in
-    let p : c .before .place-in .result + 4 ≤ args .n = omega (arith, c .before .place-in .ensures, place-no-later (loop .i) (args .n - 4), pre .0) in
-    (omega (arith, p, pre .2), omega (arith, p, pre .3, loop .inv .so-far .size))
+    let start : tie.Start Inv-loop μ-loop = search in
+    let turn : tie.At-loop Inv-loop μ-loop = search in
+    let p : c .before .place-in .result + 4 ≤ start .args .n = omega (arith, c .before .place-in .ensures, place-no-later (turn .loop .i) (start .args .n - 4), start .pre .0) in
+    (omega (arith, p, start .pre .2), omega (arith, p, start .pre .3, turn .loop .inv .so-far .size))
 
 loop-again : tie.Need-loop-again Inv-loop μ-loop
 loop-again c =
-    let loop = c .before .before .before .before .before .before .loop in
-    let place-in = c .before .before .before .before .place-in in
-    fronted-next (loop .inv) (place-in .result) (place-in .ensures) (c .before .before .copy-four .ensures)
+    let turn : tie.At-loop Inv-loop μ-loop = search in
+    let place-in : tie.After-place-in Inv-loop μ-loop = search in
+    fronted-next (turn .loop .inv) (place-in .place-in .result) (place-in .place-in .ensures) (c .before .before .copy-four .ensures)
 
 copy-four-requires-2 : tie.Need-copy-four-requires-2 Inv-loop μ-loop
 copy-four-requires-2 c κs =
-    let pre = c .before .before .before .before .before .pre in
-    (omega (arith, pre .0, pre .2), omega (arith, pre .0, pre .3, c .before .before .loop .inv .so-far .size))
+    let start : tie.Start Inv-loop μ-loop = search in
+    (omega (arith, start .pre .0, start .pre .2), omega (arith, start .pre .0, start .pre .3, c .before .before .loop .inv .so-far .size))
 
 returns : tie.Need-returns Inv-loop μ-loop
 unfolding mostAxes halvings
 returns c =
-    let args = c .before .before .before .before .before .before .before .before .args in
-    let pre = c .before .before .before .before .before .before .before .before .pre in
-    let loop = c .before .before .before .before .before .loop in
-    let the-loop-test = c .before .before .before .before .loop-test in
-    fronted-last (loop .inv) (args .n) (c .before .before .copy-four2 .ensures) (omega (arith, longest-is, the-loop-test .left, pre .1)) (omega (arith, pre .0)) (pre .2)
-    (pre .3)
+    let start : tie.Start Inv-loop μ-loop = search in
+    let turn : tie.At-loop Inv-loop μ-loop = search in
+    let ended : tie.After-loop Inv-loop μ-loop = search in
+    fronted-last (turn .loop .inv) (start .args .n) (c .before .before .copy-four2 .ensures)
+    (omega (arith, longest-is, ended .loop-test .left, start .pre .1)) (omega (arith, start .pre .0)) (start .pre .2)
+    (start .pre .3)
 
 pub copy-front-spec : {M : Type 1} → statement M
 copy-front-spec =
@@ -55,9 +54,9 @@ copy-front-spec =
     (λ c. fronted-none _ _ _)
     (λ c κs. search needs)
     copy-four-requires
-    (λ c. omega (arith, c .before .before .before .before .before .loop-test .taken))
-    (λ c. unfold mostAxes halvings in omega (arith, longest-is, c .before .before .before .before .before .loop-test .taken))
+    (λ c. let test : tie.In-loop Inv-loop μ-loop = search in omega (arith, test .loop-test .taken))
+    (λ c. let test : tie.In-loop Inv-loop μ-loop = search in unfold mostAxes halvings in omega (arith, longest-is, test .loop-test .taken))
     loop-again
     copy-four-requires-2
-    (λ c. c .before .before .copy-four2 .ensures .size ∙ c .before .before .before .before .before .loop .inv .so-far .size)
+    (λ c. let turn : tie.At-loop Inv-loop μ-loop = search in c .before .before .copy-four2 .ensures .size ∙ turn .loop .inv .so-far .size)
     returns)

@@ -19,28 +19,28 @@ abbrev μ-loop : tie.MeasureT-loop
 
 slice-write-code : tie.Need-slice-write-code Inv-loop μ-loop
 slice-write-code c =
-    let pre = c .before .before .before .before .pre in
-    omega (arith, code-two pre)
+    let start : tie.Start Inv-loop μ-loop = search in
+    omega (arith, code-two (start .pre))
 
 slice-write-code-2 : tie.Need-slice-write-code-2 Inv-loop μ-loop
 slice-write-code-2 c =
-    let pre = c .before .before .before .before .pre in
-    simp length-set (omega (arith, code-two pre))
+    let start : tie.Start Inv-loop μ-loop = search in
+    simp length-set (omega (arith, code-two (start .pre)))
 
 entries-of-requires : tie.Need-entries-of-requires Inv-loop μ-loop
 entries-of-requires c κs =
-    let pre = c .before .before .before .before .pre in
-    code-entries pre (c .axes .ensures)
+    let start : tie.Start Inv-loop μ-loop = search in
+    code-entries (start .pre) (c .axes .ensures)
 
 add-at : tie.Need-add-at Inv-loop μ-loop
 add-at c =
-    let pre = c .before .before .before .before .before .pre in
-    omega (arith, code-entries pre (c .before .axes .ensures))
+    let start : tie.Start Inv-loop μ-loop = search in
+    omega (arith, code-entries (start .pre) (c .before .axes .ensures))
 
 loop-holds : tie.Need-loop-holds Inv-loop μ-loop
 loop-holds c =
-    let pre = c .before .before .before .before .before .pre in
-    fall-none (code-headed pre (c .before .axes .ensures)) (c .entries-of .ensures)
+    let start : tie.Start Inv-loop μ-loop = search in
+    fall-none (code-headed (start .pre) (c .before .axes .ensures)) (c .entries-of .ensures)
 
 step-requires : tie.Need-step-requires Inv-loop μ-loop
 step-requires c κs =
@@ -49,44 +49,44 @@ step-requires c κs =
 
 put-box-requires : tie.Need-put-box-requires Inv-loop μ-loop
 put-box-requires c κs =
-    let loop = c .before .before .before .before .loop in
-    let loop-test = c .before .before .before .loop-test in
-    fall-room (loop .inv) (loop-test .taken)
+    let turn : tie.At-loop Inv-loop μ-loop = search in
+    let test : tie.In-loop Inv-loop μ-loop = search in
+    fall-room (turn .loop .inv) (test .loop-test .taken)
 
 place-after-requires : tie.Need-place-after-requires Inv-loop μ-loop
 place-after-requires c κs =
-    let loop = c .before .before .before .before .before .before .before .loop in
-    let loop-test = c .before .before .before .before .before .before .loop-test in
-    fall-some (loop .inv) (loop-test .taken)
+    let turn : tie.At-loop Inv-loop μ-loop = search in
+    let test : tie.In-loop Inv-loop μ-loop = search in
+    fall-some (turn .loop .inv) (test .loop-test .taken)
 
 loop-again : tie.Need-loop-again Inv-loop μ-loop
 loop-again c =
-    let loop = c .before .before .before .before .before .before .before .before .loop in
-    let loop-test = c .before .before .before .before .before .before .before .loop-test in
-    let step = c .before .before .before .before .before .step in
-    let put-box = c .before .before .before .put-box in
-    fall-next (loop .inv) (loop-test .taken) (step .ensures) (put-box .ensures) (c .place-after .ensures)
+    let turn : tie.At-loop Inv-loop μ-loop = search in
+    let test : tie.In-loop Inv-loop μ-loop = search in
+    let step : tie.After-step Inv-loop μ-loop = search in
+    let put-box : tie.After-put-box Inv-loop μ-loop = search in
+    fall-next (turn .loop .inv) (test .loop-test .taken) (step .step .ensures) (put-box .put-box .ensures) (c .place-after .ensures)
 
 write-requires : tie.Need-write-requires Inv-loop μ-loop
 write-requires c κs =
-    let pre = c .before .before .before .before .before .before .before .before .pre in
-    let axes = c .before .before .before .before .axes in
-    let loop = c .before .before .loop in
-    code-over pre (axes .ensures) (loop .inv) (c .before .loop-test .left)
+    let start : tie.Start Inv-loop μ-loop = search in
+    let axes : tie.After-axes Inv-loop μ-loop = search in
+    let turn : tie.At-loop Inv-loop μ-loop = search in
+    code-over (start .pre) (axes .axes .ensures) (turn .loop .inv) (c .before .loop-test .left)
 
 same-length : tie.Need-same-length Inv-loop μ-loop
 same-length c =
-    let loop = c .before .before .before .before .before .loop in
-    c .before .code2 .given ∙ (fall-size (loop .inv) ∙ simp length-set refl)
+    let turn : tie.At-loop Inv-loop μ-loop = search in
+    c .before .code2 .given ∙ (fall-size (turn .loop .inv) ∙ simp length-set refl)
 
 returns : tie.Need-returns Inv-loop μ-loop
 returns c =
-    let pre = c .before .before .before .before .before .before .before .before .before .before .before .pre in
-    let axes = c .before .before .before .before .before .before .before .axes in
-    let loop = c .before .before .before .before .before .loop in
-    let loop-test = c .before .before .before .before .loop-test in
-    let write = c .before .before .write in
-    code-written pre (axes .ensures) (loop .inv) (loop-test .left) (write .ensures)
+    let start : tie.Start Inv-loop μ-loop = search in
+    let axes : tie.After-axes Inv-loop μ-loop = search in
+    let turn : tie.At-loop Inv-loop μ-loop = search in
+    let ended : tie.After-loop Inv-loop μ-loop = search in
+    let write : tie.After-write Inv-loop μ-loop = search in
+    code-written (start .pre) (axes .axes .ensures) (turn .loop .inv) (ended .loop-test .left) (write .write .ensures)
 
 pub write-code-spec : {M : Type 1} → statement M
 write-code-spec =

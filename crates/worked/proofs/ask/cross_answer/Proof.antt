@@ -11,4 +11,6 @@ slice-aggregate-line : tie.Need-slice-aggregate-line
 slice-aggregate-line c = let called : tie.After-cross = search in let passed : tie.Else1 = search in crossed-fits (called .cross .ensures) (passed .if1 .left) .1
 
 pub cross-answer-spec : {M : Type 1} → statement M
-cross-answer-spec = tie.close (tie.spec (λ c. search needs) (λ c κs. search needs) (λ c κs. search needs) (λ c. search needs) (λ c. search needs) (λ c κs. search needs) (λ c κs. search needs) (λ c κs. search needs) (λ c. search needs) (λ c κs. search needs) array-share-prefix-out slice-aggregate-line (λ c κs. search needs) (λ c. search needs))
+cross-answer-spec = tie.close (tie.spec (λ c. search needs) (λ c κs. search needs) (λ c κs. search needs) (λ c. search needs) (λ c. search needs)
+    (λ c κs. search needs) (λ c κs. search needs) (λ c κs. search needs) (λ c. search needs) (λ c κs. search needs) array-share-prefix-out
+    slice-aggregate-line (λ c κs. search needs) (λ c. search needs))

@@ -1,9 +1,9 @@
 -- `byte_at` meets its contract.
 use mathlib.Core.Path.{_∙_}
-use Rattle.fours.specs.Words.{byte-at}
+use Rattle.entries.specs.Words.{byte-at}
 use borrow.Author.Needs.{needs}
-use Rattle.fours.proofs.words.byte_at.Statement.{statement}
-use Rattle.fours.proofs.words.byte_at.Tie as tie
+use Rattle.entries.proofs.words.byte_at.Statement.{statement}
+use Rattle.entries.proofs.words.byte_at.Tie as tie
 
 pub byte-at-spec : {M : Type 1} → statement M
 byte-at-spec =

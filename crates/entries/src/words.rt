@@ -1,0 +1,38 @@
+// Bytes as one word, the first in its lowest byte: one is read by a shift, whatever its place.
+ghost use mathlib.Core.Path.{_≡_};
+ghost use Prim.Native.Nat.{_+_, _/_, _%_, _^_, _≤_, _<_};
+ghost use lib.ListN.{length, getD};
+ghost use Rattle.entries.specs.Words.{bytesOf, WordAt};
+
+pub fn wide(x: u8) -> u32
+    ensures { λ r. ⌜ (r ≡ x) × (r < 256) ⌝ }
+{
+    x as u32
+}
+
+// The byte of a word that begins at a bit.
+pub fn byte(w: u32, bit: u32) -> u8
+    requires { ⌜ bit < 32 ⌝ }
+    ensures { λ r. ⌜ r ≡ w / 2 ^ bit % 256 ⌝ }
+{
+    ((w >> bit) % 256) as u8
+}
+
+// The byte at a place.
+pub fn byte_at(w: u32, n: usize) -> u8
+    requires { ⌜ n < 4 ⌝ }
+    ensures { λ r. ⌜ r ≡ getD (bytesOf w) n 0 ⌝ }
+{
+    byte(w, 8 * (n as u32))
+}
+
+// The four bytes from a place on: one read.
+pub fn word_at(bytes: &[u8], at: usize) -> u32
+    requires { ⌜ at + 4 ≤ length (now bytes) ⌝ }
+    ensures { λ r. ⌜ WordAt (now (bytes .entry)) at r ⌝ }
+{
+    wide(bytes[at])
+        + 256 * wide(bytes[at + 1])
+        + 65536 * wide(bytes[at + 2])
+        + 16777216 * wide(bytes[at + 3])
+}
