@@ -470,6 +470,30 @@ static void compatible_table(void)
             compatible_row(d, leaves);
 }
 
+/* The same once more for us alone, with the leaves doubled from row to row: how many times the time of half as many leaves. */
+static void doubling_table(void)
+{
+    if (!ours.compatible)
+        return;
+    printf("\n| leaves | dimension 2, ns a record | twice | dimension 3, ns a record | twice | dimension 4, ns a record | twice |\n"
+           "|---|---|---|---|---|---|---|\n");
+    double before[3] = {0, 0, 0};
+    for (size_t leaves = 15625; leaves <= 1000000; leaves *= 2) {
+        printf("| %zu |", leaves);
+        for (uint8_t d = 2; d <= 4; d++) {
+            compatible_sheet(d, leaves);
+            double time = measure(compatible_round, &ours, 1 + 200000 / leaves).our_time;
+            printf(" %.1f |", time / (double)sheet_records);
+            if (before[d - 2] > 0)
+                printf(" %.2f |", time / before[d - 2]);
+            else
+                printf(" |");
+            before[d - 2] = time;
+        }
+        printf("\n");
+    }
+}
+
 /* One row of the fifth: a query beside plain C and beside our sheet check alone, for each call. */
 static void query_row(const char *name, round_of *round, uint8_t d)
 {
@@ -541,6 +565,7 @@ int main(int count, char **words)
     }
     sheet_tables();
     compatible_table();
+    doubling_table();
     query_table();
     return 0;
 }

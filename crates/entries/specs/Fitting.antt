@@ -16,7 +16,7 @@ use mir.Val.{Fits}
 use borrow.Author.Tests.{lt-ltb, eq-eqb, ne-eqb, ltb-true}
 use Rattle.bisection.specs.Refusals.{each, orthantsFit}
 use Rattle.bisection.specs.Theorems.Checked.{each-at, at-each}
-use Rattle.entries.specs.Words.{wordOf, bytesOf, fourFrom, bytes-same, bytes-of, or-byte}
+use Rattle.entries.specs.Words.{wordOf, bytesOf, fourFrom, four-at, bytes-same, bytes-of, or-byte}
 
 -- four orthants as a word: those from a place on that is no later than i, and among them all from i to i + 3 that there are
 pub record OrthantsFrom (os : List ℕ) (i r : ℕ) : Type 0 where
@@ -120,13 +120,6 @@ none-byte (suc (suc zero)) h = refl
 none-byte (suc (suc (suc zero))) h = refl
 none-byte (suc (suc (suc (suc m)))) h = absurd (omega arith)
 
-four-byte : (os : List ℕ) (q m : ℕ) → m < 4 → getD (fourFrom os q) m 0 ≡ getD os (q + m) 0
-four-byte os q zero h = ap (λ (j : ℕ). getD os j 0) (omega arith)
-four-byte os q (suc zero) h = refl
-four-byte os q (suc (suc zero)) h = refl
-four-byte os q (suc (suc (suc zero))) h = refl
-four-byte os q (suc (suc (suc (suc m)))) h = absurd (omega arith)
-
 over-l : (a b : ℕ) → a ≤ bitOr a b
 over-l a b = omega (arith, or-add-and a b, and-le-r a b)
 
@@ -144,7 +137,7 @@ module _ {d : ℕ} {os : List ℕ} {i any : ℕ} (t : FitSoFar d os i any) where
   fit-next {w} o = record { every = λ h j l m. go h j l m (decLt j i); fits = λ f m l. rw (or-byte any w m l) (or-lt d (getD (bytesOf any) m 0) (getD (bytesOf w) m 0) (t .fits f m l) (rw (byte-is m l) (in-bounds f (o .from + m) (decLt (o .from + m) (length os))))) }
     where
       byte-is : (m : ℕ) → m < 4 → getD (bytesOf w) m 0 ≡ getD os (o .from + m) 0
-      byte-is m l = ap (λ (b : List ℕ). getD b m 0) (o .bytes) ∙ four-byte os (o .from) m l
+      byte-is m l = ap (λ (b : List ℕ). getD b m 0) (o .bytes) ∙ four-at os (o .from) m l
 
       in-bounds : ((j : ℕ) → j < length os → getD os j 0 < 2 ^ d) → (j : ℕ) → Dec (j < length os) → getD os j 0 < 2 ^ d
       in-bounds f j (yes l) = f j l

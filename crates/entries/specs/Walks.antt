@@ -2,20 +2,19 @@
 use mathlib.Core.Path.{_≡_, refl, sym, ap, _∙_, subst}
 use mathlib.Core.Bool.{Bool, true, false, cond, not, _&&_}
 use mathlib.Core.List.{List}
-use Prim.Native.Nat.{ℕ, zero, suc, _+_, _-_, _*_, _/_, _^_, _≤_, _<_}
+use Prim.Native.Nat.{ℕ, zero, suc, _+_, _-_, _*_, _/_, _%_, _^_, _≤_, _<_}
 use native.Mathlib.Omega.{arith}
 use native.Mathlib.Numerals.{add-one}
-use native.Mathlib.Nat.{div-eq-of-lt, div-add-mod', mod-lt}
+use native.Mathlib.Nat.{mod-lt}
 use native.Mathlib.Decide.{decLt}
 use lib.Dec.{T, eqb, leb, ltb}
-use lib.Bits.{bitOr, or-lt, or-add-and, and-le-l, and-le-r}
+use lib.Bits.{bitAnd, and-mask}
 use lib.ListN.{length, getD, take, drop, length-drop, drop-of-length-le}
-use lib.Pow.{pow-pos}
 use lib.Seq.{getD-drop, getD-take}
-use borrow.Author.Tests.{lt-ltb, le-ltb, lt-leb, le-leb, eq-eqb, ne-eqb, ltb-true}
+use borrow.Author.Tests.{lt-ltb, le-ltb, lt-leb, le-leb}
 use Rattle.bisection.specs.Codes.{axis, minus, high}
-use Rattle.bisection.specs.Refusals.{each, fresh, permutes, orthantsFit, ownMinus, sameSign, signsOwn, isRoot, isPath}
-use Rattle.bisection.specs.Theorems.Checked.{each-at, at-each, and-both, each-fails}
+use Rattle.bisection.specs.Refusals.{each, fresh, permutes, ownMinus, sameSign, signsOwn, isRoot, isPath}
+use Rattle.bisection.specs.Theorems.Checked.{and-both, each-fails}
 
 -- tests in a row: equal tests, one more, one that fails
 pub each-same : (n : ℕ) (f g : ℕ → Bool) → ((i : ℕ) → i < n → f i ≡ g i) → each n f ≡ each n g
@@ -144,12 +143,19 @@ pub up-to-fail : (es : List ℕ) (own k i : ℕ) → 0 < k → signTest es own (
 unfolding signsBy
 up-to-fail es own k i p h = sym (each-fails k (signTest es own) (placeIn i k) (place-within i k p) h)
 
--- one sign test, as the code branches
-pub same-minus : (m h : Bool) → m ≡ true → h ≡ sameSign m h
-same-minus m h e = rw e refl
+-- one sign test, as the code compares two bits
+pub sign-bits : (e own : ℕ) {a : ℕ} → e < 256 → a ≡ axis e → eqb (bitAnd (own / 2 ^ (a - 1)) 1) (e / 2 ^ 7) ≡ sameSign (minus e) (high own (axis e))
+unfolding minus high
+sign-bits e own {a} small is = rw (is, and-mask (own / 2 ^ (axis e - 1)) 1) (go (decLt e 128) (own / 2 ^ (axis e - 1) % 2) (mod-lt (own / 2 ^ (axis e - 1)) (omega arith)))
+  where
+    one-or-none : (x : ℕ) → x < 2 → eqb x 0 ≡ not (eqb x 1)
+    one-or-none zero h = refl
+    one-or-none (suc zero) h = refl
+    one-or-none (suc (suc x)) h = absurd (omega arith)
 
-pub same-plus : (m h : Bool) → m ≡ false → not h ≡ sameSign m h
-same-plus m h e = rw e refl
+    go : Dec (e < 128) → (x : ℕ) → x < 2 → eqb x (e / 2 ^ 7) ≡ sameSign (leb 128 e) (eqb x 1)
+    go (yes l) x h = let f : e / 2 ^ 7 ≡ 0 = omega arith in rw (lt-leb 128 e l, f) (one-or-none x h)
+    go (no l) x h = let f : e / 2 ^ 7 ≡ 1 = omega arith in rw (le-leb 128 e (omega arith), f) refl
 
 -- a root's bytes, under way: none before i has a sign
 pub record PlainSoFar (root : List ℕ) (i : ℕ) : Type 0 where

@@ -19,6 +19,13 @@ bytesOf w = w / 2 ^ 0 % 256 ∷ w / 2 ^ 8 % 256 ∷ w / 2 ^ 16 % 256 ∷ w / 2 ^
 abbrev pub fourFrom : List ℕ → ℕ → List ℕ
 fourFrom l at = getD l at 0 ∷ getD l (at + 1) 0 ∷ getD l (at + 2) 0 ∷ getD l (at + 3) 0 ∷ []
 
+pub four-at : (l : List ℕ) (p m : ℕ) → m < 4 → getD (fourFrom l p) m 0 ≡ getD l (p + m) 0
+four-at l p zero h = ap (λ (k : ℕ). getD l k 0) (omega arith)
+four-at l p (suc zero) h = refl
+four-at l p (suc (suc zero)) h = refl
+four-at l p (suc (suc (suc zero))) h = refl
+four-at l p (suc (suc (suc (suc m)))) h = absurd (omega arith)
+
 pub bytes-same : {p q r s p' q' r' s' : ℕ} → p ≡ p' → q ≡ q' → r ≡ r' → s ≡ s' → p ∷ q ∷ r ∷ s ∷ [] ≡ p' ∷ q' ∷ r' ∷ s' ∷ []
 bytes-same f g h k = rw (f, g, h, k) refl
 

@@ -128,16 +128,12 @@ pub fn own_byte(code: &[u8], d: usize) -> u8
     code[n - 1]
 }
 
-// The entry carries the own sign that the orthant byte gives its axis.
+// The entry carries the own sign that the orthant byte gives its axis: the byte's bit is the entry's minus, bit 7.
 pub fn same_sign(e: u8, own: u8) -> bool
     requires { ⌜ (1 ≤ axis e) × (axis e ≤ 8) ⌝ }
     ensures { λ r. ⌜ r ≡ sameSign (minus e) (high own (axis e)) ⌝ }
 {
-    let high = crate::is_high(own, crate::axis_of(e));
-    if crate::is_minus(e) {
-        return high;
-    }
-    !high
+    (own >> (crate::axis_of(e) - 1)) & 1 == e >> 7
 }
 
 // The first k entries carry the own sign that the orthant byte gives: the sign test, entry by entry. Where there are fewer

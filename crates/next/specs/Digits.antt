@@ -13,7 +13,7 @@ use lib.Pow.{pow-add, pow-pos, shr-shr, high, low, mod-pow-add}
 use lib.Seq.{drop-cons, getD-take, getD-drop, ext-getD}
 use Rattle.dimension.specs.Sizes.{halvings}
 use Rattle.dimension.specs.Laws.{halvings-few}
-use Rattle.entries.specs.Words.{wordOf, bytesOf, fourFrom, WordAt, bytes-same, bytes-of, word-sum}
+use Rattle.entries.specs.Words.{wordOf, bytesOf, fourFrom, WordAt, four-at, bytes-same, bytes-of, word-sum}
 
 unfoldable pub digits : ℕ → ℕ → List ℕ
 digits zero w = []
@@ -133,13 +133,6 @@ module _ (n at : ℕ) (bs : List ℕ) (w : ℕ) (room : at + n ≤ length bs) wh
         lists : fourFrom bs (at + from) ≡ fourDigits w from
         lists = sym (a .bytes) ∙ ap bytesOf (q ∙ b ∙ sym (word-sum (digitAt w from) (digitAt w (from + 1)) (digitAt w (from + 2)) (digitAt w (from + 3)) refl refl refl refl))
             ∙ bytes-of (digitAt w from) (digitAt w (from + 1)) (digitAt w (from + 2)) (digitAt w (from + 3)) (little from) (little (from + 1)) (little (from + 2)) (little (from + 3))
-
-        four-at : (l : List ℕ) (p m : ℕ) → m < 4 → getD (fourFrom l p) m 0 ≡ getD l (p + m) 0
-        four-at l p zero h = ap (λ (k : ℕ). getD l k 0) (omega arith)
-        four-at l p (suc zero) h = refl
-        four-at l p (suc (suc zero)) h = refl
-        four-at l p (suc (suc (suc zero))) h = refl
-        four-at l p (suc (suc (suc (suc m)))) h = absurd (omega arith)
 
         digit-at : (p m : ℕ) → m < 4 → getD (fourDigits w p) m 0 ≡ digitAt w (p + m)
         digit-at p zero h = ap (digitAt w) (omega arith)

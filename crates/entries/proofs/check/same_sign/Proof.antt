@@ -1,30 +1,11 @@
 -- `same_sign` meets its contract: a minus agrees with high, a plus with low.
-use mathlib.Core.Path.{sym, ap, _∙_}
-use mathlib.Core.Bool.{not}
-use Rattle.bisection.specs.Codes.{high}
-use Rattle.entries.specs.Walks.{same-minus, same-plus}
+use Rattle.entries.specs.Walks.{sign-bits}
 use borrow.Author.Needs.{needs}
 use Rattle.entries.proofs.check.same_sign.Statement.{statement}
 use Rattle.entries.proofs.check.same_sign.Tie as tie
 
 returns : tie.Need-returns
-returns c =
-    let start : tie.Start = search in
-    let axis-of : tie.After-axis-of = search in
-    (c .before .before .is-high .ensures ∙ ap (high (start .args .own)) (axis-of .axis-of .ensures)) ∙ same-minus _ _ (sym (c .before .is-minus .ensures) ∙ c .if1 .taken)
-
-returns-2 : tie.Need-returns-2
-returns-2 c =
-    let start : tie.Start = search in
-    let axis-of : tie.After-axis-of = search in
-    ap not (c .before .before .is-high .ensures ∙ ap (high (start .args .own)) (axis-of .axis-of .ensures)) ∙ same-plus _ _ (sym (c .before .is-minus .ensures) ∙ c .if1 .left)
+returns c = let start : tie.Start = search in sign-bits (start .args .e) (start .args .own) (search needs) (c .axis-of .ensures)
 
 pub same-sign-spec : {M : Type 1} → statement M
-same-sign-spec =
-    tie.close
-    (tie.spec
-    (λ c κs. search needs)
-    (λ c κs. (rw (c .axis-of .ensures) (c .before .pre .0), rw (c .axis-of .ensures) (c .before .pre .1)))
-    (λ c κs. search needs)
-    returns
-    returns-2)
+same-sign-spec = tie.close (tie.spec (λ c κs. search needs) (λ c. search needs) (λ c. search needs) returns)
