@@ -168,10 +168,14 @@ module _ (w : ℕ) (h : w < 2 ^ 32) where
     sum-four up front low a b c e x f g k l = omega arith
 
     bytes-by : (n : ℕ) → n < 4 → bytesOf (aboveIn n w + 256 * (w % 2 ^ (8 * n)) + m) ≡ m ∷ (take n (bytesOf w) ++ drop (suc n) (bytesOf w))
-    bytes-by zero l = ap bytesOf (sum-one (aboveIn 0 w) (w % 2 ^ 8) (w % 2 ^ (8 * 0)) first second third fourth w (above-is 0 l) low-one low-none parts) ∙ bytes-of m second third fourth small (byte-small 1 (omega arith)) (byte-small 2 (omega arith)) (byte-small 3 (omega arith))
-    bytes-by (suc zero) l = ap bytesOf (sum-two (aboveIn 1 w) (w % 2 ^ 16) (w % 2 ^ 8) first second third fourth w (above-is 1 l) low-two low-one parts) ∙ bytes-of m first third fourth small (byte-small 0 (omega arith)) (byte-small 2 (omega arith)) (byte-small 3 (omega arith))
-    bytes-by (suc (suc zero)) l = ap bytesOf (sum-three (aboveIn 2 w) (w % 2 ^ 24) (w % 2 ^ 16) first second third fourth w (above-is 2 l) low-three low-two parts) ∙ bytes-of m first second fourth small (byte-small 0 (omega arith)) (byte-small 1 (omega arith)) (byte-small 3 (omega arith))
-    bytes-by (suc (suc (suc zero))) l = ap bytesOf (sum-four (aboveIn 3 w) (w % 2 ^ 32) (w % 2 ^ 24) first second third fourth w (above-is 3 l) (mod-eq-of-lt h) low-three parts) ∙ bytes-of m first second third small (byte-small 0 (omega arith)) (byte-small 1 (omega arith)) (byte-small 2 (omega arith))
+    bytes-by zero l = ap bytesOf (sum-one (aboveIn 0 w) (w % 2 ^ 8) (w % 2 ^ (8 * 0)) first second third fourth w (above-is 0 l) low-one low-none parts)
+        ∙ bytes-of m second third fourth small (byte-small 1 (omega arith)) (byte-small 2 (omega arith)) (byte-small 3 (omega arith))
+    bytes-by (suc zero) l = ap bytesOf (sum-two (aboveIn 1 w) (w % 2 ^ 16) (w % 2 ^ 8) first second third fourth w (above-is 1 l) low-two low-one parts)
+        ∙ bytes-of m first third fourth small (byte-small 0 (omega arith)) (byte-small 2 (omega arith)) (byte-small 3 (omega arith))
+    bytes-by (suc (suc zero)) l = ap bytesOf (sum-three (aboveIn 2 w) (w % 2 ^ 24) (w % 2 ^ 16) first second third fourth w (above-is 2 l) low-three low-two parts)
+        ∙ bytes-of m first second fourth small (byte-small 0 (omega arith)) (byte-small 1 (omega arith)) (byte-small 3 (omega arith))
+    bytes-by (suc (suc (suc zero))) l = ap bytesOf (sum-four (aboveIn 3 w) (w % 2 ^ 32) (w % 2 ^ 24) first second third fourth w (above-is 3 l) (mod-eq-of-lt h) low-three parts)
+        ∙ bytes-of m first second third small (byte-small 0 (omega arith)) (byte-small 1 (omega arith)) (byte-small 2 (omega arith))
     bytes-by (suc (suc (suc (suc n)))) l = absurd (omega arith)
 
     fits-by : (n : ℕ) → n < 4 → aboveIn n w + 256 * (w % 2 ^ (8 * n)) + m < 2 ^ 32
