@@ -6,7 +6,8 @@ use mathlib.Core.Logic.{_≢_}
 use Prim.Native.Nat.{ℕ, _+_, _≤_, _<_}
 use native.Mathlib.Omega.{arith}
 use lib.Dec.{leb}
-use lib.ListN.{length, getD, drop}
+use lib.ListN.{length, getD, drop, length-drop}
+use lib.Seq.{paste}
 use borrow.Author.Tests.{lt-leb, le-leb, ne-eqb, leb-true, not-true, not-false}
 use Rattle.dimension.specs.Sizes.{isDimension, halvings, greatestDepth, codeLength, boxDepth, splitPlace}
 use Rattle.dimension.specs.Laws.{Dimension, dimension, box-in, split-range}
@@ -14,7 +15,10 @@ use Rattle.bisection.specs.Codes.{axis, dimensionOf, depthOf, entriesOf, orthan
 use Rattle.bisection.specs.Refusals.{done, refusedDimension, refusedDepth, refusedLength, refusedPermutation, refusedOrthant, refusedSign, fresh, permutes, orthantsFit, signsOwn, headRefusal, lengthOf, bodyRefusal, codeRefusal}
 use Rattle.bisection.specs.Theorems.Checked.{each-at, both}
 use Rattle.bisection.specs.Theorems.Ladders.{first-is, all-hold, holds, fails, past, stops, held-at}
-use Rattle.entries.specs.Walks.{entryFits, permutes-take, ownByte, signsBy, signs-by, AxesWithin, at-place}
+use Rattle.entries.specs.Walks.{entryFits, permutes-same, permutes-take, ownByte, signsBy, signs-by, AxesWithin, at-place}
+use Rattle.entries.specs.Words.{NoneBehind}
+use Rattle.fours.specs.Fours.{noEntries}
+use Rattle.fours.specs.Laws.{pasted-at, pasted-none}
 use Rattle.codes.specs.declared.Head.{Head}
 use Rattle.codes.specs.Fronts.{frontRefusal, frontLength, innerRefusal, HeadIs, Headed}
 use Rattle.codes.specs.Fronts.Laws.{front-refusal, front-dimension, front-length, inner-refusal, headed-refusal}
@@ -116,8 +120,23 @@ module _ {code : List ℕ} (ready : Headed code) {n : ℕ} (byte : n ≡ getD co
   pub body-whole : length code ≡ codeLength n (depthOf code)
   body-whole = rw is-dimension (whole ready)
 
+-- and its entries, as one word
+module _ {code : List ℕ} (ready : Headed code) {n : ℕ} (byte : n ≡ getD code 0 0) {es : List ℕ} (read : es ≡ paste noEntries 0 (drop 2 code) n) where
+  room : n ≤ length (drop 2 code)
+  room = omega (arith, length-drop 2 code, body-room ready byte)
+
+  pub body-behind : NoneBehind n es
+  body-behind = pasted-none (drop 2 code) (body-few ready byte) room read
+
+  body-same : permutes n es ≡ permutes n (drop 2 code)
+  body-same = permutes-same n es (drop 2 code) (pasted-at (drop 2 code) (body-few ready byte) room read)
+
 -- the body, one law for each way out, over what the code has found there
-module _ {code : List ℕ} (ready : Headed code) {n : ℕ} (byte : n ≡ getD code 0 0) {permuted : Bool} (tested : permuted ≡ permutes n (drop 2 code)) where
+module _ {code : List ℕ} (ready : Headed code) {n : ℕ} (byte : n ≡ getD code 0 0) {es : List ℕ} (read : es ≡ paste noEntries 0 (drop 2 code) n)
+    {permuted : Bool} (marked : permuted ≡ permutes n es) where
+  tested : permuted ≡ permutes n (drop 2 code)
+  tested = marked ∙ body-same ready byte read
+
   permuted-as : permutes (dimensionOf code) (entriesOf code) ≡ permuted
   unfolding entriesOf
   permuted-as = rw (← is-dimension ready byte) (permutes-take n (drop 2 code) ∙ sym tested)

@@ -23,6 +23,7 @@ use bisection::REFUSED_STEP;
 use dimension::Dim;
 use dimension::Known;
 use entries::check;
+use fours::words;
 use steps::walks;
 
 // What the head at the front of bytes says: its refusal, or the dimension and the length of the code that begins with it.
@@ -91,7 +92,7 @@ pub fn code_body(code: &[u8]) -> u8
     ensures { λ r. ⌜ r ≡ innerRefusal (now (code .entry)) ⌝ }
 {
     let d = common::size(code[0]);
-    if !check::permuted(code, 2, d) {
+    if !check::permuted(words::word_in(code, d), d) {
         return REFUSED_PERMUTATION;
     }
     if !check::orthants_fit(code, d) {

@@ -9,7 +9,7 @@ use native.Mathlib.Omega.{arith}
 use native.Mathlib.Decide.{decLt, ℕ-discrete}
 use lib.Dec.{T, eqb}
 use lib.ListN.{length, getD, take, drop, set, length-append}
-use lib.Seq.{slice, drop-length, set-append-left, take-at, drop-at}
+use lib.Seq.{set-append-left, take-at}
 use borrow.Author.Tests.{eq-eqb, ne-eqb}
 use Rattle.dimension.specs.Sizes.{codeLength, longestOfAll, splitPlace}
 use Rattle.bisection.specs.Codes.{axis, minus, negated, high, Name, bytes, dimensionOf, depthOf, entriesOf, orthantsOf, partsOf}
@@ -21,7 +21,7 @@ use Rattle.bisection.specs.Theorems.Neighbour.{isBlocked, tableCode, tablePlace
 use Rattle.entries.specs.Walks.{entry-at}
 use Rattle.entries.specs.Passed.{code-few, Checked, checked}
 use Rattle.steps.specs.Copying.{whole-front}
-use Rattle.moves.specs.Carrying.{carriedIn}
+use Rattle.moves.specs.Carrying.{Ends, Flips, ends-out, ends-stopped, flips-carried}
 use Rattle.crossing.specs.declared.Crossed.{Crossed}
 use Rattle.crossing.specs.Outcome.{Crosses}
 use Rattle.crossing.specs.Answers.{Bare, cross-face, cross-short, cross-done}
@@ -172,22 +172,6 @@ module _ (code : List ℕ) {x n : ℕ} (e : x ≡ codeRefusal code) (z : x ≡ d
           go (yes z) = rw (axes, at-first z) (leaving-far code p i b (sym f ∙ z) (start z) (first z))
           go (no z) = rw (at-last z, axes) (leaving-near code p i b (sym f ∙ subst (λ (c : Bool). cond c k j ≡ n) (ne-eqb j 0 z) (sym l ∙ q) ∙ axes) (last z))
 
--- the carry through orthants that stand behind a head and before the rest
-carried-held : (up : Bool) (a : ℕ) (head os rest : List ℕ) (from n : ℕ) → length head ≡ from → length (head ++ os) ≡ n
-    → carriedIn from n up a (head ++ (os ++ rest)) ≡ head ++ (carried up a os ++ rest)
-unfolding carriedIn
-carried-held up a head os rest from n e f = rw (take-at head (os ++ rest) from e)
-    (ap (λ (l : List ℕ). head ++ (carried up a l ++ drop n (head ++ (os ++ rest)))) middle ∙ ap (λ (l : List ℕ). head ++ (carried up a os ++ l)) behind)
-  where
-    joined : head ++ (os ++ rest) ≡ (head ++ os) ++ rest
-    joined = sym (append-assoc head os rest)
-
-    middle : slice from n (head ++ (os ++ rest)) ≡ os
-    middle = ap (drop from) (ap (take n) joined ∙ take-at (head ++ os) rest n f) ∙ drop-at head os from e
-
-    behind : drop n (head ++ (os ++ rest)) ≡ rest
-    behind = ap (drop n) joined ∙ drop-at (head ++ os) rest n f
-
 module _ {code : List ℕ} {d at e i : ℕ} (r : Leaving code d at e i) where
   k' : Checked code
   k' = checked code (r .passes)
@@ -208,88 +192,81 @@ module _ {code : List ℕ} {d at e i : ℕ} (r : Leaving code d at e i) where
   pub leaving-few : d ≤ 4
   leaving-few = omega (arith, k' .range .few, r .axes)
 
-  leaving-wall : (t : Bool) → t ≡ runsOut (minus e) (axis e) (drop (2 + d) code) → isBlocked code i ≡ t
-  unfolding orthantsOf
-  leaving-wall t q = r .wall ∙ sym (q ∙ ap (λ (x : ℕ). runsOut (minus e) (axis e) (drop (2 + x) code)) (r .axes))
-
-  pub leaving-some : runsOut (minus e) (axis e) (drop (2 + d) code) ≡ false → 2 + d < length code
-  leaving-some q = go (decLt (2 + d) (length code))
-    where
-      go : Dec (2 + d < length code) → 2 + d < length code
-      go (yes h) = h
-      go (no h) = absurd (subst T (sym (ap (λ (l : List ℕ). runsOut (minus e) (axis e) l) none) ∙ q) (unfold runsOut in tt))
-        where
-          all : 2 + d ≡ length code
-          all = omega (arith, leaving-room)
-
-          none : drop (2 + d) code ≡ []
-          none = ap (λ (n : ℕ). drop n code) all ∙ drop-length code
-
   pub leaving-facet : i ≤ dimensionOf code
   leaving-facet = omega (arith, r .facet, r .axes)
 
-  -- the buffer: the code copied, the sign changed, then the carry
-  module _ (out : List ℕ) (v : ℕ) (f : v ≡ negated (getD code (2 + at) 0)) where
-    m : Name
-    m = partsOf code
+  -- the carry runs out of the orthants just where the facet lies in a face of the cube
+  module _ {end : ℕ} (c : Ends (minus e) (axis e) code (2 + d) end) where
+    wall : {t : Bool} → runsOut (minus e) (axis e) (drop (2 + d) code) ≡ t → isBlocked code i ≡ t
+    unfolding orthantsOf
+    wall q = r .wall ∙ sym (ap (λ (x : ℕ). runsOut (minus e) (axis e) (drop (2 + x) code)) (r .axes)) ∙ q
 
-    rest : List ℕ
-    rest = drop (length code) out
+    pub leaving-face : (before : List ℕ) {s : Crossed} → end ≡ 2 + d → Bare refusedFace s → Crosses code i before s before
+    leaving-face before q f = cross-face code before i (r .passes) leaving-facet (wall (ends-out (minus e) (axis e) c q)) f
 
-    head : List ℕ
-    head = dimensionOf code ∷ depthOf code ∷ negatedAt at (m .entries)
+    module _ (goes : end ≡ 2 + d → ⊥) where
+      open-there : isBlocked code i ≡ false
+      open-there = wall (ends-stopped (minus e) (axis e) c goes)
 
-    sized : length (m .entries) ≡ dimensionOf code
-    unfolding m
-    sized = k' .good .passes .signed .size
+      pub leaving-some : 2 + d < end
+      leaving-some = omega (arith, goes, c .low)
 
-    entry-there : getD code (2 + at) 0 ≡ getD (m .entries) at 0
-    unfolding m partsOf entriesOf
-    entry-there = entry-at code 2 (dimensionOf code) at (omega (arith, r .place, r .axes))
+      pub leaving-short : (before : List ℕ) {s : Crossed} → length before < length code → Bare refusedShort s → Crosses code i before s before
+      leaving-short before l f = cross-short code before i (r .passes) leaving-facet open-there l f
 
-    there : 2 + at ≡ suc (suc at)
-    there = omega arith
+      -- the buffer: the code copied, the carry, then the sign changed
+      module _ (before : List ℕ) where
+        rest : List ℕ
+        rest = drop (length code) before
 
-    stored : set (code ++ rest) (2 + at) v ≡ head ++ (m .orthants ++ rest)
-    unfolding head m negatedAt
-    stored = ap (λ (l : List ℕ). set (l ++ rest) (2 + at) v) (k' .good .is) ∙ (unfold bytes in rw there (ap (λ (l : List ℕ). dimensionOf code ∷ depthOf code ∷ l)
-        (ap (λ (l : List ℕ). set l at v) (append-assoc ((partsOf code) .entries) ((partsOf code) .orthants) rest)
-        ∙ set-append-left ((partsOf code) .entries) ((partsOf code) .orthants ++ rest) at v (omega (arith, sized, r .place, r .axes))
-        ∙ ap (λ (x : ℕ). set ((partsOf code) .entries) at x ++ ((partsOf code) .orthants ++ rest)) (f ∙ ap negated entry-there))))
+        es' : List ℕ
+        es' = (partsOf code) .entries
 
-    written : carriedIn (2 + d) (length code) (minus e) (axis e) (set (code ++ rest) (2 + at) v) ≡ tableCode code i ++ rest
-    unfolding head m bytes partsOf
-    written = ap (carriedIn (2 + d) (length code) (minus e) (axis e)) stored
-        ∙ carried-held (minus e) (axis e) head (orthantsOf code) rest (2 + d) (length code) front whole
-        ∙ sym (append-assoc head (carried (minus e) (axis e) (orthantsOf code)) rest) ∙ ap (λ (l : List ℕ). (dimensionOf code ∷ depthOf code ∷ l) ++ rest) (sym both)
-      where
-        n : Name
-        n = acrossName (dimensionOf code) (depthOf code) i (partsOf code)
+        moved : List ℕ
+        moved = carried (minus e) (axis e) (orthantsOf code)
 
-        both : n .entries ++ n .orthants ≡ negatedAt at (entriesOf code) ++ carried (minus e) (axis e) (orthantsOf code)
-        both = ap (λ (l : List ℕ). l ++ n .orthants) (r .entries) ∙ ap (λ (l : List ℕ). negatedAt at (entriesOf code) ++ l) (r .orthants)
+        sized : length es' ≡ dimensionOf code
+        unfolding es'
+        sized = k' .good .passes .signed .size
 
-        front : length head ≡ 2 + d
-        front = omega (arith, sized, r .axes, negatedAt-length at ((partsOf code) .entries))
+        head : take (2 + d) code ≡ dimensionOf code ∷ depthOf code ∷ es'
+        unfolding es' bytes
+        head = ap (take (2 + d)) (k' .good .is) ∙ take-at (dimensionOf code ∷ depthOf code ∷ (partsOf code) .entries) ((partsOf code) .orthants) (2 + d) (omega (arith, sized, r .axes))
 
-        whole : length (head ++ (partsOf code) .orthants) ≡ length code
-        whole = simp length-append (omega (arith, ap length (k' .good .is), length-append ((partsOf code) .entries) ((partsOf code) .orthants), negatedAt-length at ((partsOf code) .entries)))
+        behind : drop (2 + d) code ≡ orthantsOf code
+        unfolding orthantsOf
+        behind = ap (λ (x : ℕ). drop (2 + x) code) (r .axes)
 
-    -- the copied front is the code
-    pub leaving-written : {buf after : List ℕ} → buf ≡ take (length code) code ++ drop (length code) out
-        → after ≡ carriedIn (2 + d) (length code) (minus e) (axis e) (set buf (2 + at) v) → after ≡ tableCode code i ++ drop (length code) out
-    unfolding rest
-    leaving-written q w = w ∙ rw (q ∙ whole-front code out) written
+        carried-there : {buf after : List ℕ} → buf ≡ take (length code) code ++ rest → Flips (end - 1) (length code) (axis e) buf after
+            → after ≡ (dimensionOf code ∷ depthOf code ∷ es') ++ (moved ++ rest)
+        unfolding moved rest
+        carried-there {after = after} q f = flips-carried (minus e) (axis e) c rest leaving-room leaving-some
+            (subst (λ (l : List ℕ). Flips (end - 1) (length code) (axis e) l after) (q ∙ whole-front code before) f)
+            ∙ ap (λ (l : List ℕ). l ++ (carried (minus e) (axis e) (drop (2 + d) code) ++ rest)) head
+            ∙ ap (λ (l : List ℕ). (dimensionOf code ∷ depthOf code ∷ es') ++ (carried (minus e) (axis e) l ++ rest)) behind
 
-  -- the ways out, as the code has what the carry says
-  module _ (before : List ℕ) {t : Bool} (q : t ≡ runsOut (minus e) (axis e) (drop (2 + d) code)) where
-    pub leaving-face : {s : Crossed} → t ≡ true → Bare refusedFace s → Crosses code i before s before
-    leaving-face w f = cross-face code before i (r .passes) leaving-facet (leaving-wall t q ∙ w) f
+        -- the sign changed
+        turned : {v : ℕ} → v ≡ negated (getD code (2 + at) 0) → set ((dimensionOf code ∷ depthOf code ∷ es') ++ (moved ++ rest)) (2 + at) v
+            ≡ (dimensionOf code ∷ depthOf code ∷ negatedAt at es') ++ (moved ++ rest)
+        unfolding es' negatedAt partsOf entriesOf
+        turned {v} q = let there : 2 + at ≡ suc (suc at) = omega arith in rw there
+            (ap (λ (l : List ℕ). dimensionOf code ∷ depthOf code ∷ l)
+            (set-append-left es' (moved ++ rest) at v (omega (arith, sized, r .place, r .axes))
+            ∙ ap (λ (x : ℕ). set es' at x ++ (moved ++ rest)) (q ∙ ap negated (entry-at code 2 (dimensionOf code) at (omega (arith, r .place, r .axes))))))
 
-    pub leaving-short : {s : Crossed} → t ≡ false → length before < length code → Bare refusedShort s → Crosses code i before s before
-    leaving-short w l f = cross-short code before i (r .passes) leaving-facet (leaving-wall t q ∙ w) l f
+        table : (dimensionOf code ∷ depthOf code ∷ negatedAt at es') ++ (moved ++ rest) ≡ tableCode code i ++ rest
+        unfolding es' moved bytes partsOf
+        table = sym (append-assoc (dimensionOf code ∷ depthOf code ∷ negatedAt at es') moved rest) ∙ ap (λ (l : List ℕ). (dimensionOf code ∷ depthOf code ∷ l) ++ rest) (sym both)
+          where
+            n : Name
+            n = acrossName (dimensionOf code) (depthOf code) i (partsOf code)
 
-    pub leaving-done : {buf after : List ℕ} {v : ℕ} → t ≡ false → length code ≤ length before → v ≡ negated (getD code (2 + at) 0)
-        → buf ≡ take (length code) code ++ drop (length code) before → after ≡ carriedIn (2 + d) (length code) (minus e) (axis e) (set buf (2 + at) v)
-        → Crosses code i before (record { refusal = done; place = i; length = length code }) after
-    leaving-done {v = v} w l f b g = cross-done code before i (r .passes) leaving-facet (leaving-wall t q ∙ w) l refl (sym (r .new)) refl (leaving-written before v f b g)
+            both : n .entries ++ n .orthants ≡ negatedAt at (entriesOf code) ++ carried (minus e) (axis e) (orthantsOf code)
+            both = ap (λ (l : List ℕ). l ++ n .orthants) (r .entries) ∙ ap (λ (l : List ℕ). negatedAt at (entriesOf code) ++ l) (r .orthants)
+
+        pub leaving-done : {buf after : List ℕ} {v x : ℕ} → length code ≤ length before → v ≡ negated (getD code (2 + at) 0)
+            → buf ≡ take (length code) code ++ drop (length code) before → x ≡ axis e → Flips (end - 1) (length code) x buf after
+            → Crosses code i before (record { refusal = done; place = i; length = length code }) (set after (2 + at) v)
+        unfolding rest
+        leaving-done {buf} {after} {v} l q b h f = cross-done code before i (r .passes) leaving-facet open-there l refl (sym (r .new)) refl
+            (ap (λ (x : List ℕ). set x (2 + at) v) (carried-there b (subst (λ (a : ℕ). Flips (end - 1) (length code) a buf after) h f)) ∙ turned q ∙ table)

@@ -13,6 +13,7 @@ use bisection::REFUSED_SHORT;
 use bisection::REFUSED_STEP;
 use entries::check;
 use fours::words;
+use moves::carries;
 use steps::buffers;
 
 // The answer: the place of the new vertex, and how many bytes of the code across stand at the buffer's front.
@@ -66,7 +67,8 @@ fn cross_outside(code: &[u8], d: usize, at: usize, e: u8, facet: u8, out: &mut [
     requires { ⌜ Leaving (now code) d at e facet ⌝ }
     ensures { λ r. ⌜ Crosses (now (code .entry)) facet (now (out .entry)) r (now (out .exit)) ⌝ }
 {
-    if moves::runs_out(code, 2 + d, e) {
+    let end = carries::carry_end(code, 2 + d, e);
+    if end == 2 + d {
         return refused(REFUSED_FACE);
     }
     let length = code.len();
@@ -75,8 +77,8 @@ fn cross_outside(code: &[u8], d: usize, at: usize, e: u8, facet: u8, out: &mut [
     }
     let turned = entries::negate(code[2 + at]);
     buffers::copy_front(code, length, out);
+    carries::carry(out, end - 1, length, entries::axis_of(e));
     out[2 + at] = turned;
-    moves::carry(out, 2 + d, length, e);
     Crossed {
         refusal: DONE,
         place: facet,

@@ -9,17 +9,19 @@ use native.Mathlib.Decide.{decLt, decLe, ℕ-discrete}
 use lib.Dec.{T, eqb, leb}
 use lib.Bits.{bitOr}
 use lib.Pow.{pow-pos, pow-lt}
-use lib.ListN.{length, getD, take, drop, length-take, length-drop}
+use lib.ListN.{length, getD, take, List·getD-eq-default}
+use lib.Seq.{getD-take, length-take-le}
 use borrow.Author.Tests.{eq-eqb, ne-eqb, le-leb, lt-leb}
-use Rattle.bisection.specs.Codes.{axis, high}
+use Rattle.bisection.specs.Codes.{axis, minus, high}
 use Rattle.bisection.specs.Refusals.{each, permutes, sameSign}
 use Rattle.bisection.specs.Theorems.Onto.{Sought, sought, found, none, Taken, onto}
 use Rattle.bisection.specs.Theorems.Entries.{Signed, Stands, stands}
 use Rattle.bisection.specs.Theorems.Orthants.{bits-same}
 use Rattle.bisection.specs.Theorems.Passing.{same-true}
 use Rattle.bisection.specs.Theorems.Checked.{each-at, permutes-signed, signed-permutes}
-use Rattle.entries.specs.Masks.{markOf, marked-high, marked-byte, high-none, shifted-bit}
-use Rattle.entries.specs.Walks.{placeIn, place-under, place-within, permutes-take}
+use Rattle.entries.specs.Masks.{markOf, marked-high, marked-byte, high-none, shifted-wide}
+use Rattle.entries.specs.Walks.{permutes-take}
+use Rattle.entries.specs.Words.{NoneBehind}
 
 -- where every axis stands among d entries, each stands at one place
 module _ (d : ℕ) (es : List ℕ) (size : length es ≡ d) (all : (a : ℕ) → 1 ≤ a → a ≤ d → Stands es a d) where
@@ -71,6 +73,10 @@ full-high d (suc a) h l u = same-true (high (2 ^ d - 1) (suc a)) (leb (suc a) d)
     (each-at 8 (λ a. sameSign (high (2 ^ d - 1) (suc a)) (leb (suc a) d))
     (each-at 9 (λ d. each 8 (λ a. sameSign (high (2 ^ d - 1) (suc a)) (leb (suc a) d))) marks-table d h) a (omega arith))
 
+axis-none : axis 0 ≡ 0
+unfolding axis minus
+axis-none = refl
+
 -- the walk: the entries before place i are marked, and what is marked stands among the d
 pub record Marked (d : ℕ) (es : List ℕ) (i seen : ℕ) : Type 0 where
   pub byte : seen < 2 ^ 8
@@ -81,8 +87,13 @@ pub marked-none : (d : ℕ) (es : List ℕ) → Marked d es 0 0
 marked-none d es = record { byte = pow-pos 8; marks = λ j l. absurd (omega arith); from = λ a l u h. absurd (subst T (sym h ∙ high-none a) tt) }
 
 module _ {d : ℕ} {es : List ℕ} {i seen : ℕ} (m : Marked d es i seen) where
-  pub marked-next : 0 < d → (e : ℕ) → e ≡ getD es (placeIn i d) 0 → Marked d es (i + 1) (bitOr seen (markOf (axis e)))
-  marked-next p e is = record { byte = marked-byte seen (axis e) (m .byte); marks = λ j l h low up. marks j l h low up (decLt j i); from = λ a l u h. from a l u h (ℕ-discrete a (axis e)) }
+  -- one more, of the d or a 0 behind them
+  marked-next : length es ≡ d → (e : ℕ) → e ≡ getD es i 0 → Marked d es (i + 1) (bitOr seen (markOf (axis e)))
+  marked-next size e is = record {
+    byte = marked-byte seen (axis e) (m .byte);
+    marks = λ j l h low up. marks j l h low up (decLt j i);
+    from = λ a l u h. from a l u h (ℕ-discrete a (axis e)) (decLt i d);
+  }
     where
       marks : (j : ℕ) → j < i + 1 → j < d → 1 ≤ axis (getD es j 0) → axis (getD es j 0) ≤ 8 → Dec (j < i) → high (bitOr seen (markOf (axis e))) (axis (getD es j 0)) ≡ true
       marks j l h low up (yes q) = rw (marked-high seen (axis e) (axis (getD es j 0)) low up, m .marks j q h low up) (go (eqb (axis (getD es j 0)) (axis e)))
@@ -92,12 +103,13 @@ module _ {d : ℕ} {es : List ℕ} {i seen : ℕ} (m : Marked d es i seen) where
           go false = refl
       marks j l h low up (no q) = rw (marked-high seen (axis e) (axis (getD es j 0)) low up, eq-eqb (axis (getD es j 0)) (axis e) (ap axis (ap (λ (x : ℕ). getD es x 0) here ∙ sym is))) refl
         where
-          here : j ≡ placeIn i d
-          here = sym (place-under i d (omega arith) ∙ omega arith)
+          here : j ≡ i
+          here = omega arith
 
-      from : (a : ℕ) → 1 ≤ a → a ≤ 8 → high (bitOr seen (markOf (axis e))) a ≡ true → Dec (a ≡ axis e) → Stands es a d
-      from a l u h (yes q) = record { place = placeIn i d; below = place-within i d p; is = ap axis (sym is) ∙ sym q }
-      from a l u h (no q) = m .from a l u (sym (marked-high seen (axis e) a l u ∙ rw (ne-eqb a (axis e) q) refl) ∙ h)
+      from : (a : ℕ) → 1 ≤ a → a ≤ 8 → high (bitOr seen (markOf (axis e))) a ≡ true → Dec (a ≡ axis e) → Dec (i < d) → Stands es a d
+      from a l u h (yes q) (yes k) = record { place = i; below = k; is = ap axis (sym is) ∙ sym q }
+      from a l u h (yes q) (no k) = absurd (omega (arith, q, ap axis (is ∙ List·getD-eq-default es 0 {n = i} (omega arith)), axis-none))
+      from a l u h (no q) k = m .from a l u (sym (marked-high seen (axis e) a l u ∙ rw (ne-eqb a (axis e) q) refl) ∙ h)
 
   pub marked-all : length es ≡ d → d ≤ i → d ≤ 4 → eqb seen (2 ^ d - 1) ≡ permutes d es
   marked-all size h few = go (ℕ-discrete seen (2 ^ d - 1))
@@ -125,6 +137,17 @@ module _ {d : ℕ} {es : List ℕ} {i seen : ℕ} (m : Marked d es i seen) where
           wrong true e = absurd (n (bits-same 8 seen (2 ^ d - 1) (m .byte) (omega (arith, pow-lt {i = d} {j = 8} (omega arith)))
               (λ a l u. high-of (permutes-signed d es size e) a l u (decLe a d) ∙ sym (full-high d a (omega arith) l u))))
 
--- the d bytes from a place on
-pub permuted-at : (s : List ℕ) (at d i seen : ℕ) → at + d ≤ length s → d ≤ 4 → d ≤ i → Marked d (take d (drop at s)) i seen → eqb seen (1 * 2 ^ d % 2 ^ 8 - 1) ≡ permutes d (drop at s)
-permuted-at s at d i seen h few l m = ap (λ (o : ℕ). eqb seen (o - 1)) (shifted-bit d (omega arith)) ∙ marked-all m (simp (length-take, length-drop) (omega arith)) l few ∙ permutes-take d (drop at s)
+-- entries with zeros behind them
+module _ {d i seen : ℕ} {es : List ℕ} (long : length es ≡ 4) (few : d ≤ 4) (behind : NoneBehind d es) (m : Marked d (take d es) i seen) where
+  size : length (take d es) ≡ d
+  size = length-take-le d es (omega arith)
+
+  pub marked-more : {e : ℕ} → e ≡ getD es i 0 → Marked d (take d es) (i + 1) (bitOr seen (markOf (axis e)))
+  marked-more {e} is = marked-next m size e (is ∙ go (decLt i d))
+    where
+      go : Dec (i < d) → getD es i 0 ≡ getD (take d es) i 0
+      go (yes h) = sym (getD-take d es i 0 h)
+      go (no h) = behind .none i (omega arith) ∙ sym (List·getD-eq-default (take d es) 0 {n = i} (omega (arith, size)))
+
+  pub permuted-all : 4 ≤ i → eqb seen (1 * 2 ^ d % 2 ^ 32 - 1) ≡ permutes d es
+  permuted-all h = ap (λ (o : ℕ). eqb seen (o - 1)) (shifted-wide d (omega arith)) ∙ marked-all m size (omega arith) few ∙ permutes-take d es

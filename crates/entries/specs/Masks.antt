@@ -21,6 +21,9 @@ high-masked o a = ap (λ (u : ℕ). eqb u 1) (and-mask (o / 2 ^ (a - 1)) 1)
 pub shifted-bit : (n : ℕ) → n < 8 → 1 * 2 ^ n % 2 ^ 8 ≡ 2 ^ n
 shifted-bit n h = let l : 2 ^ n < 2 ^ 8 = pow-lt {i = n} {j = 8} h in rw (one-mul (2 ^ n)) (mod-eq-of-lt l)
 
+pub shifted-wide : (n : ℕ) → n ≤ 8 → 1 * 2 ^ n % 2 ^ 32 ≡ 2 ^ n
+shifted-wide n h = let l : 2 ^ n < 2 ^ 32 = pow-lt {i = n} {j = 32} (omega arith) in rw (one-mul (2 ^ n)) (mod-eq-of-lt l)
+
 -- bits of a join
 bit-or : (a b j : ℕ) → bitOr a b / 2 ^ j % 2 ≡ max (a / 2 ^ j % 2) (b / 2 ^ j % 2)
 bit-or a b j = rw (or-shr a b j) (or-mod (a / 2 ^ j) (b / 2 ^ j) 1 ∙ two (a / 2 ^ j % 2) (b / 2 ^ j % 2) (mod-lt (a / 2 ^ j) (omega arith)) (mod-lt (b / 2 ^ j) (omega arith)))
@@ -85,8 +88,22 @@ pub mark-in : (a : ℕ) → 1 ≤ a → a ≤ 8 → markOf a ≡ 2 ^ (a - 1)
 unfolding markOf
 mark-in a h l = rw (le-leb 1 a h, le-leb a 8 l) refl
 
-pub mark-as : (a : ℕ) → 1 ≤ a → a ≤ 8 → 1 * 2 ^ (a - 1) % 2 ^ 8 ≡ markOf a
-mark-as a h l = shifted-bit (a - 1) (omega arith) ∙ sym (mark-in a h l)
+-- as the code makes it: the bit at the axis, one place down
+pub mark-as : {a x : ℕ} → a ≡ x → a ≤ 8 → 1 * 2 ^ a % 2 ^ 32 / 2 ≡ markOf x
+mark-as {a} e l = ap (λ (y : ℕ). y / 2) (shifted-wide a l) ∙ go a l ∙ ap markOf e
+  where
+    go : (a : ℕ) → a ≤ 8 → 2 ^ a / 2 ≡ markOf a
+    go zero l = sym (mark-none 0 (omega arith))
+    go (suc a) l = half ∙ sym (mark-in (suc a) (omega arith) l ∙ ap (λ (n : ℕ). 2 ^ n) down)
+      where
+        half : 2 ^ suc a / 2 ≡ 2 ^ a
+        half = omega arith
+
+        down : suc a - 1 ≡ a
+        down = omega arith
+
+pub mark-past : {a x : ℕ} → a ≡ x → 8 < a → 0 ≡ markOf x
+mark-past {a} {x} e h = sym (mark-over x (omega arith))
 
 -- a mark or-ed to a byte makes its axis high, and changes no other
 module _ (o a : ℕ) where

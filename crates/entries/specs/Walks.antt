@@ -5,16 +5,17 @@ use mathlib.Core.List.{List}
 use Prim.Native.Nat.{ℕ, zero, suc, _+_, _-_, _*_, _/_, _%_, _^_, _≤_, _<_}
 use native.Mathlib.Omega.{arith}
 use native.Mathlib.Numerals.{add-one}
-use native.Mathlib.Nat.{mod-lt}
+use native.Mathlib.Nat.{mod-lt, zero-add}
 use native.Mathlib.Decide.{decLt}
 use lib.Dec.{T, eqb, leb, ltb}
 use lib.Bits.{bitAnd, and-mask}
 use lib.ListN.{length, getD, take, drop, length-drop, drop-of-length-le}
 use lib.Seq.{getD-drop, getD-take}
-use borrow.Author.Tests.{lt-ltb, le-ltb, lt-leb, le-leb}
+use borrow.Author.Tests.{not-true, not-false, lt-ltb, le-ltb, lt-leb, le-leb}
 use Rattle.bisection.specs.Codes.{axis, minus, high}
 use Rattle.bisection.specs.Refusals.{each, fresh, permutes, ownMinus, sameSign, signsOwn, isRoot, isPath}
 use Rattle.bisection.specs.Theorems.Checked.{and-both, each-fails}
+use Rattle.entries.specs.Words.{fourFrom, four-at}
 
 -- tests in a row: equal tests, one more, one that fails
 pub each-same : (n : ℕ) (f g : ℕ → Bool) → ((i : ℕ) → i < n → f i ≡ g i) → each n f ≡ each n g
@@ -35,11 +36,14 @@ and-false true = refl
 and-false false = refl
 
 -- only the first d entries count
-pub permutes-take : (d : ℕ) (l : List ℕ) → permutes d (take d l) ≡ permutes d l
+pub permutes-same : (d : ℕ) (l m : List ℕ) → ((i : ℕ) → i < d → getD l i 0 ≡ getD m i 0) → permutes d l ≡ permutes d m
 unfolding permutes fresh
-permutes-take d l = each-same d (entryFits d (take d l)) (entryFits d l) (λ i h. rw (getD-take d l i 0 h)
-    (ap (λ (t : Bool). leb 1 (axis (getD l i 0)) && leb (axis (getD l i 0)) d && t)
-    (each-same i (λ j. not (eqb (axis (getD (take d l) j 0)) (axis (getD l i 0)))) (λ j. not (eqb (axis (getD l j 0)) (axis (getD l i 0)))) (λ j k. rw (getD-take d l j 0 (omega arith)) refl))))
+permutes-same d l m e = each-same d (entryFits d l) (entryFits d m) (λ i h. rw (e i h)
+    (ap (λ (t : Bool). leb 1 (axis (getD m i 0)) && leb (axis (getD m i 0)) d && t)
+    (each-same i (λ j. not (eqb (axis (getD l j 0)) (axis (getD m i 0)))) (λ j. not (eqb (axis (getD m j 0)) (axis (getD m i 0)))) (λ j k. rw (e j (omega arith)) refl))))
+
+pub permutes-take : (d : ℕ) (l : List ℕ) → permutes d (take d l) ≡ permutes d l
+permutes-take d l = permutes-same d (take d l) l (λ i h. getD-take d l i 0 h)
 
 -- the place of a read that takes no branch: i, or the first
 abbrev pub placeIn : ℕ → ℕ → ℕ
@@ -113,10 +117,6 @@ module _ {es : List ℕ} {own i : ℕ} (s : SignsSoFar es own i) where
   pub signs-next : signTest es own i ≡ true → SignsSoFar es own (i + 1)
   signs-next e = record { so-far = each-more i (signTest es own) (s .so-far) e }
 
-  pub signs-fail : {k : ℕ} → i < k → signTest es own i ≡ false → false ≡ signsBy k es own
-  unfolding signsBy
-  signs-fail {k} l h = sym (each-fails k (signTest es own) i l h)
-
   pub signs-all : {k : ℕ} → i ≤ k → k ≤ i → true ≡ signsBy k es own
   unfolding signsBy
   signs-all {k} l u = sym (subst (λ (n : ℕ). each n (signTest es own) ≡ true) (omega arith) (s .so-far))
@@ -165,9 +165,13 @@ pub plain-none : (root : List ℕ) → PlainSoFar root 0
 unfolding each
 plain-none root = record { so-far = refl }
 
-pub root-permutes : (root : List ℕ) → permutes (length root) (drop 0 root) ≡ false → false ≡ isRoot root
+-- as the code has the root, as one word
+root-word : (root es : List ℕ) → length root ≤ 4 → es ≡ fourFrom root 0 → permutes (length root) es ≡ permutes (length root) root
+root-word root es few e = permutes-same (length root) es root (λ i h. ap (λ (l : List ℕ). getD l i 0) e ∙ four-at root 0 i (omega arith) ∙ ap (λ (x : ℕ). getD root x 0) (zero-add i))
+
+pub root-permutes : (root : List ℕ) {es : List ℕ} {t : Bool} → length root ≤ 4 → es ≡ fourFrom root 0 → t ≡ permutes (length root) es → not t ≡ true → false ≡ isRoot root
 unfolding isRoot
-root-permutes root e = sym (rw e refl)
+root-permutes root {es} {t} few e f q = sym (rw (sym (root-word root es few e) ∙ sym f ∙ not-true t q) refl)
 
 module _ {root : List ℕ} {i : ℕ} (s : PlainSoFar root i) where
   pub plain-next : minus (getD root i 0) ≡ false → PlainSoFar root (i + 1)
@@ -177,9 +181,10 @@ module _ {root : List ℕ} {i : ℕ} (s : PlainSoFar root i) where
   unfolding isRoot
   plain-fail l e = sym (rw (each-fails (length root) (λ j. not (minus (getD root j 0))) i l (ap not e)) (and-false (permutes (length root) root)))
 
-  pub plain-all : permutes (length root) (drop 0 root) ≡ true → i ≤ length root → length root ≤ i → true ≡ isRoot root
+  pub plain-all : {es : List ℕ} {t : Bool} → length root ≤ 4 → es ≡ fourFrom root 0 → t ≡ permutes (length root) es → not t ≡ false
+      → i ≤ length root → length root ≤ i → true ≡ isRoot root
   unfolding isRoot
-  plain-all p l u = sym (and-both (permutes (length root) root) (each (length root) (λ j. not (minus (getD root j 0)))) p
+  plain-all {es} {t} few e f q l u = sym (and-both (permutes (length root) root) (each (length root) (λ j. not (minus (getD root j 0)))) (sym (root-word root es few e) ∙ sym f ∙ not-false t q)
       (subst (λ (n : ℕ). each n (λ j. not (minus (getD root j 0))) ≡ true) (omega arith) (s .so-far)))
 
 -- a path's bytes, under way: each before i is 0 or 1

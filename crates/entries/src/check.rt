@@ -9,6 +9,7 @@ ghost use Rattle.dimension.specs.Sizes.{axesOf, halvings, codeLength, splitPlac
 ghost use Rattle.bisection.specs.Codes.{axis, minus, high, dimensionOf, depthOf};
 ghost use Rattle.bisection.specs.Refusals.{done, codeRefusal, permutes, orthantsFit, sameSign, isRoot, isPath};
 ghost use Rattle.entries.specs.Fitting.{OrthantsFrom};
+ghost use Rattle.entries.specs.Words.{bytesOf, NoneBehind};
 ghost use Rattle.entries.specs.Walks.{ownByte, signsBy, AxesWithin};
 use crate::words;
 use dimension::Dim;
@@ -57,16 +58,16 @@ pub fn place_in(i: usize, n: usize) -> usize
     0
 }
 
-// The d bytes from `at` on have the axes 1..d, none repeated: d entries whose marks are those of 1..d have each axis just once.
-pub fn permuted(s: &[u8], at: usize, d: usize) -> bool
-    requires { ⌜ (1 ≤ d) × (d ≤ 4) × (at + d ≤ length (now s)) ⌝ }
-    ensures { λ r. ⌜ r ≡ permutes d (drop at (now (s .entry))) ⌝ }
+// The d entries of a word have the axes 1..d, none repeated: d entries whose marks are those of 1..d have each axis just once. What
+// stands behind them is 0, which has no mark.
+pub fn permuted(entries: u32, d: usize) -> bool
+    requires { ⌜ (1 ≤ d) × (d ≤ 4) × NoneBehind d (bytesOf entries) ⌝ }
+    ensures { λ r. ⌜ r ≡ permutes d (bytesOf entries) ⌝ }
 {
-    let mut seen: u8 = 0;
+    let mut seen: u32 = 0;
     let mut i: usize = 0;
     while i < Dim::MOST_AXES {
-        let j = place_in(i, d);
-        seen = seen | crate::mark_of(s[at + j]);
+        seen = seen | crate::mark_of(words::byte_at(entries, i));
         i += 1;
     }
     seen == (1 << d) - 1
@@ -158,7 +159,7 @@ pub fn is_root(root: &[u8]) -> bool
     requires { ⌜ (1 ≤ length (now root)) × (length (now root) ≤ 4) ⌝ }
     ensures { λ r. ⌜ r ≡ isRoot (now (root .entry)) ⌝ }
 {
-    if !permuted(root, 0, root.len()) {
+    if !permuted(words::first_word(root), root.len()) {
         return false;
     }
     let mut i: usize = 0;

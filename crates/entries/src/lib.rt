@@ -70,16 +70,13 @@ pub fn is_high(orthant: u8, axis: u8) -> bool
     (orthant >> (axis - 1)) & 1 == 1
 }
 
-// The byte that is high on the entry's axis alone; 0 where a byte has no bit for it.
-pub fn mark_of(e: u8) -> u8
+// The mask that is high on the entry's axis alone; 0 where a byte has no bit for it.
+pub fn mark_of(e: u8) -> u32
     ensures { λ r. ⌜ r ≡ markOf (axis e) ⌝ }
 {
-    let a = axis_of(e);
-    if a < 1 {
-        return 0;
-    }
+    let a = words::wide(axis_of(e));
     if 8 < a {
         return 0;
     }
-    1 << (a - 1)
+    (1 << a) / 2
 }

@@ -2,7 +2,7 @@
 ghost use mathlib.Core.Path.{_≡_};
 ghost use Prim.Native.Nat.{_+_, _/_, _%_, _^_, _≤_, _<_};
 ghost use lib.ListN.{length, getD};
-ghost use Rattle.entries.specs.Words.{bytesOf, WordAt};
+ghost use Rattle.entries.specs.Words.{bytesOf, WordAt, Puts};
 
 pub fn wide(x: u8) -> u32
     ensures { λ r. ⌜ (r ≡ x) × (r < 256) ⌝ }
@@ -35,4 +35,35 @@ pub fn word_at(bytes: &[u8], at: usize) -> u32
         + 256 * wide(bytes[at + 1])
         + 65536 * wide(bytes[at + 2])
         + 16777216 * wide(bytes[at + 3])
+}
+
+// The byte at a place, 0 where there is none.
+fn byte_or_none(bytes: &[u8], n: usize) -> u8
+    ensures { λ r. ⌜ r ≡ getD (now (bytes .entry)) n 0 ⌝ }
+{
+    if bytes.len() <= n {
+        return 0;
+    }
+    bytes[n]
+}
+
+// The first four bytes of as many as there are.
+pub fn first_word(bytes: &[u8]) -> u32
+    ensures { λ r. ⌜ WordAt (now (bytes .entry)) 0 r ⌝ }
+{
+    wide(byte_or_none(bytes, 0))
+        + 256 * wide(byte_or_none(bytes, 1))
+        + 65536 * wide(byte_or_none(bytes, 2))
+        + 16777216 * wide(byte_or_none(bytes, 3))
+}
+
+// Writes the four bytes of a word from a place on: one store.
+pub fn put(w: u32, out: &mut [u8], at: usize)
+    requires { ⌜ at + 4 ≤ length (now out) ⌝ }
+    ensures { λ r. ⌜ Puts at (bytesOf w) (now (out .entry)) (now (out .exit)) ⌝ }
+{
+    out[at] = byte(w, 0);
+    out[at + 1] = byte(w, 8);
+    out[at + 2] = byte(w, 16);
+    out[at + 3] = byte(w, 24);
 }

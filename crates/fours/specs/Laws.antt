@@ -7,7 +7,7 @@ use native.Mathlib.Omega.{arith}
 use native.Mathlib.Nat.{zero-add}
 use lib.Dec.{T, ltb, eqb}
 use lib.ListN.{length, getD, take, drop, set, length-append, length-drop, take-append-drop, List·getD-append}
-use lib.Seq.{paste, take-at, take-set-le, drop-set-add, drop-drop, getD-drop}
+use lib.Seq.{paste, take-at, take-set-le, drop-set-add, drop-drop, getD-drop, getD-take, getD-append-add, length-take-le}
 use borrow.Author.Tests.{eq-eqb, ne-eqb, eqb-true, lt-ltb, le-ltb}
 use Rattle.bisection.specs.Codes.{axis, minus, negated, turned, stepped, high}
 use Rattle.bisection.specs.Refusals.{sameSign}
@@ -15,6 +15,7 @@ use Rattle.bisection.specs.Theorems.Entries.{unturned, turned-append, unturned-
 use Rattle.bisection.specs.Theorems.Passing.{unstepped}
 use Rattle.fours.specs.declared.Four.{Four}
 use Rattle.entries.specs.Walks.{placeIn}
+use Rattle.entries.specs.Words.{NoneBehind}
 use Rattle.fours.specs.Fours.{four, noEntries, Holds, SameFour, BackIs}
 
 -- the entry that a place has
@@ -169,3 +170,27 @@ module _ {d : ℕ} {e : Four} {es : List ℕ} (h : Holds d e es) where
 
 pub pasted : (l : List ℕ) (d : ℕ) → paste noEntries 0 l d ≡ take d l ++ drop d noEntries
 pasted l d = ap (λ (n : ℕ). take d l ++ drop n noEntries) (zero-add d)
+
+-- the entries that stand so are those of the list, with zeros behind them
+module _ (l : List ℕ) {es : List ℕ} {d : ℕ} (few : d ≤ 4) (room : d ≤ length l) (e : es ≡ paste noEntries 0 l d) where
+  front : length (take d l) ≡ d
+  front = length-take-le d l room
+
+  pub pasted-at : (i : ℕ) → i < d → getD es i 0 ≡ getD l i 0
+  pasted-at i h = ap (λ (x : List ℕ). getD x i 0) (e ∙ pasted l d) ∙ List·getD-append (take d l) (drop d noEntries) 0 i (omega (arith, front)) ∙ getD-take d l i 0 h
+
+  pub pasted-none : NoneBehind d es
+  pasted-none = record {
+    none = λ m h. ap (λ (x : List ℕ). getD x m 0) (e ∙ pasted l d) ∙ ap (λ (x : ℕ). getD (take d l ++ drop d noEntries) x 0) (there m h)
+        ∙ getD-append-add (take d l) (drop d noEntries) (m - d) 0 ∙ getD-drop d noEntries (m - d) 0 ∙ zeros (d + (m - d));
+  }
+    where
+      there : (m : ℕ) → d ≤ m → m ≡ length (take d l) + (m - d)
+      there m h = omega (arith, front)
+
+      zeros : (m : ℕ) → getD noEntries m 0 ≡ 0
+      zeros zero = refl
+      zeros (suc zero) = refl
+      zeros (suc (suc zero)) = refl
+      zeros (suc (suc (suc zero))) = refl
+      zeros (suc (suc (suc (suc m)))) = refl

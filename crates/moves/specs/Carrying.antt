@@ -1,171 +1,200 @@
--- The carry through the orthants that stand in a buffer, place by place from the last one, and the flip of one bit.
+-- The carry of a move against an entry through the orthants of a code: where it ends, and the orthants that it flips.
 use mathlib.Core.Path.{_≡_, refl, sym, ap, _∙_}
-use mathlib.Core.Bool.{Bool, true, false, not, _&&_}
-use mathlib.Core.List.{List, [], _∷_, _++_, append-assoc}
-use Prim.Native.Nat.{ℕ, suc, _+_, _-_, _*_, _/_, _%_, _^_, _≤_, _<_}
+use mathlib.Core.Bool.{Bool, true, false, not, _&&_, cond}
+use mathlib.Core.List.{List, [], _∷_, _++_}
+use Prim.Native.Nat.{ℕ, zero, suc, _+_, _-_, _≤_, _<_}
 use native.Mathlib.Omega.{arith}
-use lib.Bits.{bitXor, xor-step, xor-block, xor-zero-r}
-use lib.Pow.{pow-pos}
-use lib.ListN.{length, getD, take, drop, set, take-append-drop, List·getD-append}
-use lib.Seq.{drop-cons, drop-length, drop-drop, drop-append-le, take-take, take-suc, append-snoc, set-at, slice, slice-empty, slice-cons, getD-take, length-take-le}
+use native.Mathlib.Decide.{decLt}
+use lib.ListN.{length, getD, take, drop, set, length-append, length-drop, length-set, List·getD-append}
+use lib.Seq.{drop-drop, getD-drop, getD-take, getD-set-same, getD-set-other, getD-append-add, length-take-le, ext-getD}
+use borrow.Author.Tests.{not-true, not-false}
 use Rattle.bisection.specs.Codes.{high}
 use Rattle.bisection.specs.Refusals.{sameSign}
+use Rattle.bisection.specs.Theorems.Checked.{and-both}
 use Rattle.bisection.specs.Theorems.Table.{flipped, runsOut, carried}
-use Rattle.bisection.specs.Theorems.Crossing.Flips.{Parts, parts, digit}
-use Rattle.bisection.specs.Theorems.Crossing.Stops.{runsOut-front, carried-front}
-use Rattle.entries.specs.Masks.{shifted-bit}
-
--- a byte with one bit flipped, as the code's xor makes it
-bit-flipped : (u : ℕ) (t : Bool) → bitXor (2 * u + digit t) 1 ≡ 2 * u + digit (not t)
-bit-flipped u true = xor-step (2 * u + 1) 1 ∙ rw (half, odd, xor-zero-r u) (omega arith)
-  where
-    half : (2 * u + 1) / 2 ≡ u
-    half = omega arith
-
-    odd : (2 * u + 1) % 2 ≡ 1
-    odd = omega arith
-bit-flipped u false = xor-step (2 * u + 0) 1 ∙ rw (half, even, xor-zero-r u) (omega arith)
-  where
-    half : (2 * u + 0) / 2 ≡ u
-    half = omega arith
-
-    even : (2 * u + 0) % 2 ≡ 0
-    even = omega arith
-
-pub flipped-as : (o a : ℕ) → 1 ≤ a → a ≤ 8 → bitXor o (1 * 2 ^ (a - 1) % 2 ^ 8) ≡ flipped a o
-flipped-as o a h l = rw (shifted-bit (a - 1) (omega arith))
-    (ap (λ (x : ℕ). bitXor x (2 ^ (a - 1))) (p .byte) ∙ ap (bitXor whole) one ∙ xor-block (a - 1) (2 * p .above + digit (p .bit)) 1 (p .below) 0 (p .low)
-    (pow-pos (a - 1))
-    ∙ rw (bit-flipped (p .above) (p .bit), xor-zero-r (p .below)) (sym (p .flip)))
-  where
-    p : Parts a o
-    p = parts a o
-
-    whole : ℕ
-    whole = (2 * p .above + digit (p .bit)) * 2 ^ (a - 1) + p .below
-
-    one : 2 ^ (a - 1) ≡ 1 * 2 ^ (a - 1) + 0
-    one = omega arith
+use Rattle.bisection.specs.Theorems.Crossing.Boxes.{carried-length}
 
 -- signs agree either way round
-pub same-turned : (s t : Bool) → sameSign s t ≡ sameSign t s
+same-turned : (s t : Bool) → sameSign s t ≡ sameSign t s
 same-turned true true = refl
 same-turned true false = refl
 same-turned false true = refl
 same-turned false false = refl
 
-and-true : (b : Bool) → (b && true) ≡ b
-and-true true = refl
-and-true false = refl
+and-false : (b : Bool) → (b && false) ≡ false
+and-false true = refl
+and-false false = refl
 
-module _ (up : Bool) (a : ℕ) (l : List ℕ) where
-  -- the orthants from t on are tested, and none stopped the carry
-  pub record Running (t : ℕ) : Type 0 where
-    pub none-stops : runsOut up a (drop t l) ≡ true
+-- the carry passes an orthant whose bit is as the entry's sign
+abbrev pub passes : Bool → ℕ → ℕ → Bool
+passes up a o = sameSign up (high o a)
 
-  pub running-none : Running (length l)
+-- where the carry ends: it passes every orthant from place r on, and the one before r stops it; none does where r is the first place
+pub record Ends (up : Bool) (a : ℕ) (l : List ℕ) (from r : ℕ) : Type 0 where
+  pub low : from ≤ r
+  pub within : r ≤ length l
+  pub passed : (j : ℕ) → r ≤ j → j < length l → passes up a (getD l j 0) ≡ true
+  pub stopped : from < r → passes up a (getD l (r - 1) 0) ≡ false
+
+-- the carry under way: it passes every orthant from place t on
+pub record Running (up : Bool) (a : ℕ) (l : List ℕ) (t : ℕ) : Type 0 where
+  pub within : t ≤ length l
+  pub passed : (j : ℕ) → t ≤ j → j < length l → passes up a (getD l j 0) ≡ true
+
+module _ {up : Bool} {a : ℕ} {l : List ℕ} {t : ℕ} (s : Running up a l t) where
+  pub running-next : {from : ℕ} {b : Bool} → from < t → b ≡ passes up a (getD l (t - 1) 0) → not b ≡ false → Running up a l (t - 1)
+  running-next {b = b} h e q = record { within = omega (arith, s .within); passed = λ j m u. go j m u (decLt j t) }
+    where
+      go : (j : ℕ) → t - 1 ≤ j → j < length l → Dec (j < t) → passes up a (getD l j 0) ≡ true
+      go j m u (yes d) = ap (λ (x : ℕ). passes up a (getD l x 0)) (omega arith) ∙ sym e ∙ not-false b q
+      go j m u (no d) = s .passed j (omega arith) u
+
+  pub running-stopped : {from : ℕ} {b : Bool} → from < t → b ≡ passes up a (getD l (t - 1) 0) → not b ≡ true → Ends up a l from t
+  running-stopped {b = b} h e q = record { low = omega arith; within = s .within; passed = s .passed; stopped = λ m. sym e ∙ not-true b q }
+
+  pub running-out : {from : ℕ} → t ≤ from → from ≤ length l → Ends up a l from from
+  running-out h room = record { low = omega arith; within = room; passed = λ j m u. s .passed j (omega arith) u; stopped = λ m. absurd (omega arith) }
+
+-- the places from s to n have their bit of axis a flipped, and the others stay
+pub record Flips (s n a : ℕ) (l r : List ℕ) : Type 0 where
+  pub size : length r ≡ length l
+  pub before : (j : ℕ) → j < s → getD r j 0 ≡ getD l j 0
+  pub flips : (j : ℕ) → s ≤ j → j < n → getD r j 0 ≡ flipped a (getD l j 0)
+  pub past : (j : ℕ) → n ≤ j → getD r j 0 ≡ getD l j 0
+
+pub flips-none : (s a : ℕ) (l : List ℕ) → Flips s s a l l
+flips-none s a l = record { size = refl; before = λ j h. refl; flips = λ j h u. absurd (omega arith); past = λ j h. refl }
+
+-- up to one place, and from it on
+module _ {s n a : ℕ} {l b : List ℕ} (f : Flips s n a l b) (low : s ≤ n) where
+  pub flips-join : {m : ℕ} {r : List ℕ} → Flips n m a b r → n ≤ m → Flips s m a l r
+  flips-join {m} {r} g h = record {
+    size = g .size ∙ f .size;
+    before = λ j u. g .before j (omega arith) ∙ f .before j u;
+    flips = λ j u w. go j u w (decLt j n);
+    past = λ j u. g .past j u ∙ f .past j (omega arith);
+  }
+    where
+      go : (j : ℕ) → s ≤ j → j < m → Dec (j < n) → getD r j 0 ≡ flipped a (getD l j 0)
+      go j u w (yes q) = g .before j q ∙ f .flips j u q
+      go j u w (no q) = g .flips j (omega arith) w ∙ ap (flipped a) (f .past j (omega arith))
+
+  pub flips-next : {v : ℕ} → n < length l → v ≡ flipped a (getD b n 0) → Flips s (n + 1) a l (set b n v)
+  flips-next {v} room e = flips-join (record {
+    size = length-set b n v;
+    before = λ j u. getD-set-other b n j v 0 (omega arith);
+    flips = λ j u w. ap (λ (x : ℕ). getD (set b n v) x 0) (here j u w) ∙ getD-set-same b n v 0 (omega (arith, f .size)) ∙ e ∙ ap (λ (x : ℕ). flipped a (getD b x 0)) (sym (here j u w));
+    past = λ j u. getD-set-other b n j v 0 (omega arith);
+  }) (omega arith)
+    where
+      here : (j : ℕ) → n ≤ j → j < n + 1 → j ≡ n
+      here j u w = omega arith
+
+module _ (up : Bool) (a : ℕ) where
+  runs-all : (os : List ℕ) → ((i : ℕ) → i < length os → passes up a (getD os i 0) ≡ true) → runsOut up a os ≡ true
   unfolding runsOut
-  running-none = record { none-stops = rw (drop-length l) refl }
+  runs-all [] f = refl
+  runs-all (o ∷ os) f = and-both (sameSign (high o a) up) (runsOut up a os) (same-turned (high o a) up ∙ f 0 (omega arith)) (runs-all os (λ i l. f (suc i) (omega arith)))
 
-  module _ {t : ℕ} (s : Running t) (u : ℕ) (e : t ≡ suc u) (h : t ≤ length l) where
-    one-more : runsOut up a (drop u l) ≡ sameSign (high (getD l u 0) a) up
-    unfolding runsOut
-    one-more = ap (runsOut up a) (drop-cons l u 0 (omega arith) ∙ ap (λ (j : ℕ). getD l u 0 ∷ drop j l) (sym e)) ∙ rw (s .none-stops) (and-true (sameSign (high (getD l u 0) a) up))
+  runs-not : (os : List ℕ) (i : ℕ) → i < length os → passes up a (getD os i 0) ≡ false → runsOut up a os ≡ false
+  unfolding runsOut
+  runs-not [] i l e = absurd (omega arith)
+  runs-not (o ∷ os) zero l e = rw (same-turned (high o a) up, e) refl
+  runs-not (o ∷ os) (suc i) l e = rw (runs-not os i (omega arith) e) (and-false (sameSign (high o a) up))
 
-    pub running-next : sameSign up (high (getD l u 0) a) ≡ true → Running u
-    running-next q = record { none-stops = one-more ∙ same-turned (high (getD l u 0) a) up ∙ q }
+  carried-at : (os : List ℕ) (i : ℕ) → i < length os → getD (carried up a os) i 0 ≡ cond (runsOut up a (drop (suc i) os)) (flipped a (getD os i 0)) (getD os i 0)
+  unfolding carried
+  carried-at [] i l = absurd (omega arith)
+  carried-at (o ∷ os) zero l = refl
+  carried-at (o ∷ os) (suc i) l = carried-at os i (omega arith)
 
-    pub running-stopped : sameSign up (high (getD l u 0) a) ≡ false → (from : ℕ) → from < t → false ≡ runsOut up a (drop from l)
-    running-stopped q from r = sym (ap (runsOut up a) parts-of ∙ runsOut-front up a (drop u l) (one-more ∙ same-turned (high (getD l u 0) a) up ∙ q) (take (u - from) (drop from l)))
+  module _ {l : List ℕ} {from r : ℕ} (e : Ends up a l from r) where
+    -- the orthants from a place on: the carry runs out of those behind its end, and of no more
+    past-end : (j : ℕ) → r ≤ j → runsOut up a (drop j l) ≡ true
+    past-end j h = runs-all (drop j l) (λ i q. ap (passes up a) (getD-drop j l i 0) ∙ e .passed (j + i) (omega arith) (omega (arith, length-drop j l)))
+
+    before-end : (j : ℕ) → from ≤ j → j < r → runsOut up a (drop j l) ≡ false
+    before-end j h q = runs-not (drop j l) (r - 1 - j) (omega (arith, length-drop j l, e .within))
+        (ap (passes up a) (getD-drop j l (r - 1 - j) 0 ∙ ap (λ (x : ℕ). getD l x 0) there) ∙ e .stopped (omega arith))
       where
-        there : from + (u - from) ≡ u
+        there : j + (r - 1 - j) ≡ r - 1
         there = omega arith
 
-        parts-of : drop from l ≡ take (u - from) (drop from l) ++ drop u l
-        parts-of = sym (take-append-drop (u - from) (drop from l)) ∙ ap (λ (m : List ℕ). take (u - from) (drop from l) ++ m) (drop-drop (u - from) from l ∙ ap (λ (j : ℕ). drop j l) there)
+    pub ends-out : r ≡ from → runsOut up a (drop from l) ≡ true
+    ends-out q = past-end from (omega arith)
 
-  pub running-all : {t : ℕ} → Running t → (from : ℕ) → from ≤ t → t ≤ from → true ≡ runsOut up a (drop from l)
-  running-all {t} s from h k = sym (ap (λ (j : ℕ). runsOut up a (drop j l)) same ∙ s .none-stops)
-    where
-      same : from ≡ t
-      same = omega arith
+    pub ends-stopped : (r ≡ from → ⊥) → runsOut up a (drop from l) ≡ false
+    ends-stopped n = before-end from (omega arith) (omega (arith, n, e .low))
 
--- the orthants of a buffer that stand from place `from` to place n, after the carry
-unfoldable pub carriedIn : ℕ → ℕ → Bool → ℕ → List ℕ → List ℕ
-carriedIn from n up a l = take from l ++ (carried up a (slice from n l) ++ drop n l)
+    -- the carry's flips make the orthants carried; what stands before and behind them stays
+    module _ (rest : List ℕ) {after : List ℕ} (room : from ≤ length l) (some : from < r) (f : Flips (r - 1) (length l) a (l ++ rest) after) where
+      head : List ℕ
+      head = take from l
 
--- the carry under way: it flipped the orthants from t on
-pub record Carrying (n : ℕ) (up : Bool) (a : ℕ) (l : List ℕ) (t : ℕ) (buf : List ℕ) : Type 0 where
-  pub is : buf ≡ carriedIn t n up a l
-  pub goes-on : runsOut up a (slice t n l) ≡ true
+      os : List ℕ
+      os = drop from l
 
-module _ (n : ℕ) (up : Bool) (a : ℕ) (l : List ℕ) (room : n ≤ length l) where
-  pub carrying-none : Carrying n up a l n l
-  unfolding carriedIn carried runsOut
-  carrying-none = record { is = rw (slice-empty n l) (sym (take-append-drop n l)); goes-on = rw (slice-empty n l) refl }
+      head-length : length head ≡ from
+      unfolding head
+      head-length = length-take-le from l room
 
-  module _ {t : ℕ} {buf : List ℕ} (s : Carrying n up a l t buf) (u : ℕ) (e : t ≡ suc u) (h : t ≤ n) where
-    front : length (take t l) ≡ t
-    front = length-take-le t l (omega arith)
+      os-length : length (carried up a os) ≡ length l - from
+      unfolding os
+      os-length = carried-length up a (drop from l) ∙ length-drop from l
 
-    carrying-reads : getD buf u 0 ≡ getD l u 0
-    unfolding carriedIn
-    carrying-reads = ap (λ (m : List ℕ). getD m u 0) (s .is) ∙ List·getD-append (take t l) (carried up a (slice t n l) ++ drop n l) 0 u (omega (arith, front)) ∙ getD-take t l u 0 (omega arith)
+      -- by the place: before the orthants, among them, behind them
+      in-head : (j : ℕ) → j < from → getD after j 0 ≡ getD (head ++ (carried up a os ++ rest)) j 0
+      unfolding head
+      in-head j h = f .before j (omega arith) ∙ List·getD-append l rest 0 j (omega arith)
+          ∙ sym (List·getD-append (take from l) (carried up a os ++ rest) 0 j (omega (arith, head-length)) ∙ getD-take from l j 0 h)
 
-    -- the slice from u on, and the buffer with its orthant u flipped
-    longer : slice u n l ≡ getD l u 0 ∷ slice t n l
-    longer = slice-cons u n l 0 (omega arith) room ∙ ap (λ (j : ℕ). getD l u 0 ∷ slice j n l) (sym e)
+      in-os : (j : ℕ) → from ≤ j → j < length l → getD after j 0 ≡ getD (carried up a os) (j - from) 0
+      unfolding os
+      in-os j h q = go (decLt j (r - 1))
+        where
+          here : from + (j - from) ≡ j
+          here = omega arith
 
-    flipped-too : carried up a (slice u n l) ≡ flipped a (getD l u 0) ∷ carried up a (slice t n l)
-    unfolding carried
-    flipped-too = rw (longer, s .goes-on) refl
+          next : from + suc (j - from) ≡ suc j
+          next = omega arith
 
-    carrying-is : (v : ℕ) → v ≡ flipped a (getD l u 0) → set buf u v ≡ carriedIn u n up a l
-    unfolding carriedIn
-    carrying-is v f = ap (λ (m : List ℕ). set m u v)
-        (s .is ∙ ap (λ (m : List ℕ). m ++ (carried up a (slice t n l) ++ drop n l)) begin ∙ append-snoc (take u l) (getD l u 0) (carried up a (slice t n l) ++ drop n l))
-        ∙ set-at (take u l) (getD l u 0) (carried up a (slice t n l) ++ drop n l) v u (length-take-le u l (omega arith))
-        ∙ rw (f, flipped-too) refl
-      where
-        begin : take t l ≡ take u l ++ (getD l u 0 ∷ [])
-        begin = ap (λ (j : ℕ). take j l) e ∙ take-suc l u 0 (omega arith)
+          read : getD (drop from l) (j - from) 0 ≡ getD l j 0
+          read = getD-drop from l (j - from) 0 ∙ ap (λ (x : ℕ). getD l x 0) here
 
-    runs-more : runsOut up a (slice u n l) ≡ sameSign (high (getD l u 0) a) up
-    unfolding runsOut
-    runs-more = rw (longer, s .goes-on) (and-true (sameSign (high (getD l u 0) a) up))
+          behind : drop (suc (j - from)) (drop from l) ≡ drop (suc j) l
+          behind = drop-drop (suc (j - from)) from l ∙ ap (λ (x : ℕ). drop x l) next
 
-    goes-on-with : (v : ℕ) → v ≡ flipped a (getD l u 0) → sameSign up (high (getD l u 0) a) ≡ true → Carrying n up a l u (set buf u v)
-    goes-on-with v f q = record { is = carrying-is v f; goes-on = runs-more ∙ same-turned (high (getD l u 0) a) up ∙ q }
+          at : getD (carried up a (drop from l)) (j - from) 0 ≡ cond (runsOut up a (drop (suc j) l)) (flipped a (getD l j 0)) (getD l j 0)
+          at = carried-at (drop from l) (j - from) (omega (arith, length-drop from l)) ∙ rw (behind, read) refl
 
-    stops-with : (v : ℕ) → v ≡ flipped a (getD l u 0) → sameSign up (high (getD l u 0) a) ≡ false → (from : ℕ) → from < t → set buf u v ≡ carriedIn from n up a l
-    unfolding carriedIn
-    stops-with v f q from r = carrying-is v f
-        ∙ ap (λ (m : List ℕ). m ++ (carried up a (slice u n l) ++ drop n l)) first
-        ∙ append-assoc (take from l) (slice from u l) (carried up a (slice u n l) ++ drop n l)
-        ∙ ap (λ (m : List ℕ). take from l ++ m) (sym (append-assoc (slice from u l) (carried up a (slice u n l)) (drop n l)))
-        ∙ ap (λ (m : List ℕ). take from l ++ (m ++ drop n l))
-        (sym (ap (carried up a) middle ∙ carried-front up a (slice u n l) (runs-more ∙ same-turned (high (getD l u 0) a) up ∙ q) (slice from u l)))
-      where
-        first : take u l ≡ take from l ++ slice from u l
-        first = sym (take-append-drop from (take u l)) ∙ ap (λ (m : List ℕ). m ++ slice from u l) (take-take from u l (omega arith))
+          go : Dec (j < r - 1) → getD after j 0 ≡ getD (carried up a (drop from l)) (j - from) 0
+          go (yes p) = f .before j p ∙ List·getD-append l rest 0 j q ∙ sym (at ∙ rw (before-end (suc j) (omega arith) (omega arith)) refl)
+          go (no p) = f .flips j (omega arith) q ∙ ap (flipped a) (List·getD-append l rest 0 j q) ∙ sym (at ∙ rw (past-end (suc j) (omega arith)) refl)
 
-        middle : slice from n l ≡ slice from u l ++ slice u n l
-        middle = ap (drop from) (sym (take-append-drop u (take n l)) ∙ ap (λ (m : List ℕ). m ++ slice u n l) (take-take u n l (omega arith))) ∙ drop-append-le from
-            (take u l) (slice u n l) (omega (arith, length-take-le u l (omega arith)))
+      behind-head : (j : ℕ) → from ≤ j → getD (head ++ (carried up a os ++ rest)) j 0 ≡ getD (carried up a os ++ rest) (j - from) 0
+      behind-head j h = ap (λ (x : ℕ). getD (head ++ (carried up a os ++ rest)) x 0) there ∙ getD-append-add head (carried up a os ++ rest) (j - from) 0
+        where
+          there : j ≡ length head + (j - from)
+          there = omega (arith, head-length)
 
-    -- the same of the orthant as it is read from the buffer
-    module _ (v x : ℕ) (ax : x ≡ a) (f : v ≡ flipped x (getD buf u 0)) where
-      flips : v ≡ flipped a (getD l u 0)
-      flips = f ∙ ap (λ (y : ℕ). flipped y (getD buf u 0)) ax ∙ ap (flipped a) carrying-reads
+      in-rest : (j : ℕ) → length l ≤ j → getD after j 0 ≡ getD (carried up a os ++ rest) (j - from) 0
+      in-rest j h = f .past j h ∙ ap (λ (x : ℕ). getD (l ++ rest) x 0) whole ∙ getD-append-add l rest (j - length l) 0
+          ∙ sym (ap (λ (x : ℕ). getD (carried up a os ++ rest) x 0) part ∙ getD-append-add (carried up a os) rest (j - length l) 0)
+        where
+          whole : j ≡ length l + (j - length l)
+          whole = omega arith
 
-      pub carrying-next : sameSign up (high (getD buf u 0) a) ≡ true → Carrying n up a l u (set buf u v)
-      carrying-next q = goes-on-with v flips (ap (λ (o : ℕ). sameSign up (high o a)) (sym carrying-reads) ∙ q)
+          part : j - from ≡ length (carried up a os) + (j - length l)
+          part = omega (arith, os-length)
 
-      pub carrying-stopped : sameSign up (high (getD buf u 0) a) ≡ false → (from : ℕ) → from < t → set buf u v ≡ carriedIn from n up a l
-      carrying-stopped q = stops-with v flips (ap (λ (o : ℕ). sameSign up (high o a)) (sym carrying-reads) ∙ q)
+      pub flips-carried : after ≡ take from l ++ (carried up a (drop from l) ++ rest)
+      unfolding head os
+      flips-carried = ext-getD 0 after (head ++ (carried up a os ++ rest)) size (λ j h. go j (decLt j from) (decLt j (length l)))
+        where
+          size : length after ≡ length (head ++ (carried up a os ++ rest))
+          size = f .size ∙ length-append l rest ∙ sym (length-append head (carried up a os ++ rest) ∙ rw (head-length, length-append (carried up a os) rest, os-length) (omega arith))
 
-  pub carrying-all : {t : ℕ} {buf : List ℕ} → Carrying n up a l t buf → (from : ℕ) → from ≤ t → t ≤ from → buf ≡ carriedIn from n up a l
-  carrying-all {t} s from h k = s .is ∙ ap (λ (j : ℕ). carriedIn j n up a l) same
-    where
-      same : t ≡ from
-      same = omega arith
+          go : (j : ℕ) → Dec (j < from) → Dec (j < length l) → getD after j 0 ≡ getD (head ++ (carried up a os ++ rest)) j 0
+          go j (yes p) q = in-head j p
+          go j (no p) (yes q) = in-os j (omega arith) q ∙ sym (behind-head j (omega arith) ∙ List·getD-append (carried up a os) rest 0 (j - from) (omega (arith, os-length)))
+          go j (no p) (no q) = in-rest j (omega arith) ∙ sym (behind-head j (omega arith))

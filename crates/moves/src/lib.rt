@@ -1,13 +1,11 @@
 // The moves of a crossing: the entries rearranged by value where it stays in its box, the orthants changed by carry where it leaves
 // the box for the one beside it.
+pub mod carries; // carries.rt: where the carry ends, and its flips
+
 ghost use mathlib.Core.Path.{_≡_};
 ghost use mathlib.Core.Bool.{cond};
 ghost use Prim.Native.Nat.{_+_, _*_, _≤_, _<_};
-ghost use lib.ListN.{length, drop};
-ghost use Rattle.bisection.specs.Codes.{axis, minus};
-ghost use Rattle.bisection.specs.Theorems.Table.{flipped, runsOut};
 ghost use Rattle.fours.specs.Fours.{four};
-ghost use Rattle.moves.specs.Carrying.{carriedIn};
 ghost use Rattle.moves.specs.Rearranging.{ownNext, Rearranges, Movable, within, rowAt, takenBy};
 use entries::check;
 use entries::words;
@@ -17,47 +15,6 @@ use fours::Four;
 pub struct Moved {
     pub entries: Four,
     pub place: u8,
-}
-
-// The orthant byte with its bit of the axis flipped.
-fn flip(orthant: u8, axis: u8) -> u8
-    requires { ⌜ (1 ≤ axis) × (axis ≤ 8) ⌝ }
-    ensures { λ r. ⌜ r ≡ flipped axis orthant ⌝ }
-{
-    orthant ^ (1 << (axis - 1))
-}
-
-// No orthant from `from` on stops the carry of a move against the entry: the box lies at the cube's wall there.
-pub fn runs_out(code: &[u8], from: usize, e: u8) -> bool
-    requires { ⌜ (from ≤ length (now code)) × (1 ≤ axis e) × (axis e ≤ 8) ⌝ }
-    ensures { λ r. ⌜ r ≡ runsOut (minus e) (axis e) (drop from (now (code .entry))) ⌝ }
-{
-    let mut last = code.len();
-    while from < last {
-        last -= 1;
-        if !check::same_sign(e, code[last]) {
-            return false;
-        }
-    }
-    true
-}
-
-// Moves the box by its side against the entry: the carry flips its axis in the orthants before place n, from the last
-// one back to the one that stops it.
-pub fn carry(buf: &mut [u8], from: usize, n: usize, e: u8)
-    requires { ⌜ (from < n) × (n ≤ length (now buf)) × (1 ≤ axis e) × (axis e ≤ 8) ⌝ }
-    ensures { λ r. ⌜ now (buf .exit) ≡ carriedIn from n (minus e) (axis e) (now (buf .entry)) ⌝ }
-{
-    let a = entries::axis_of(e);
-    let mut t = n;
-    while from < t {
-        t -= 1;
-        let orthant = buf[t];
-        buf[t] = flip(orthant, a);
-        if !check::same_sign(e, orthant) {
-            return;
-        }
-    }
 }
 
 // One of two places.

@@ -7,6 +7,7 @@ use native.Mathlib.Decide.{decLt, ℕ-discrete}
 use lib.ListN.{length, getD, take, drop, set, length-append, length-take, length-drop, length-set, List·getD-append}
 use lib.Seq.{getD-drop, getD-take, take-all, getD-append-add, getD-set-same, getD-set-other, ext-getD}
 use Rattle.entries.specs.Walks.{placeIn, place-under, place-past}
+use Rattle.entries.specs.Words.{bytesOf, four-at, WordAt, Puts}
 
 -- four bytes from a place on are copied, and the others stay
 pub record CopiesFour (at : ℕ) (src dst r : List ℕ) : Type 0 where
@@ -15,60 +16,16 @@ pub record CopiesFour (at : ℕ) (src dst r : List ℕ) : Type 0 where
   pub copied : (j : ℕ) → at ≤ j → j < at + 4 → getD r j 0 ≡ getD src j 0
   pub past : (j : ℕ) → at + 4 ≤ j → getD r j 0 ≡ getD dst j 0
 
-module _ (at : ℕ) (src dst : List ℕ) (h : at + 4 ≤ length dst) where
-  a : List ℕ
-  a = set dst at (getD src at 0)
-
-  b : List ℕ
-  b = set a (at + 1) (getD src (at + 1) 0)
-
-  c : List ℕ
-  c = set b (at + 2) (getD src (at + 2) 0)
-
-  d : List ℕ
-  d = set c (at + 3) (getD src (at + 3) 0)
-
-  length-a : length a ≡ length dst
-  unfolding a
-  length-a = length-set dst at (getD src at 0)
-
-  length-b : length b ≡ length dst
-  unfolding b
-  length-b = length-set a (at + 1) (getD src (at + 1) 0) ∙ length-a
-
-  length-c : length c ≡ length dst
-  unfolding c
-  length-c = length-set b (at + 2) (getD src (at + 2) 0) ∙ length-b
-
-  other : (j : ℕ) → (j ≡ at → ⊥) → (j ≡ at + 1 → ⊥) → (j ≡ at + 2 → ⊥) → (j ≡ at + 3 → ⊥) → getD d j 0 ≡ getD dst j 0
-  unfolding a b c d
-  other j n o p q = getD-set-other c (at + 3) j (getD src (at + 3) 0) 0 q ∙ getD-set-other b (at + 2) j (getD src (at + 2) 0) 0 p
-      ∙ getD-set-other a (at + 1) j (getD src (at + 1) 0) 0 o ∙ getD-set-other dst at j (getD src at 0) 0 n
-
-  one : (j : ℕ) → at ≤ j → j < at + 4 → Dec (j ≡ at) → Dec (j ≡ at + 1) → Dec (j ≡ at + 2) → getD d j 0 ≡ getD src j 0
-  unfolding a b c d
-  one j l u (yes e) f g = getD-set-other c (at + 3) j (getD src (at + 3) 0) 0 (omega arith) ∙ getD-set-other b (at + 2) j (getD src (at + 2) 0) 0 (omega arith)
-      ∙ getD-set-other a (at + 1) j (getD src (at + 1) 0) 0 (omega arith) ∙ rw e (getD-set-same dst at (getD src at 0) 0 (omega arith))
-  one j l u (no e) (yes f) g = getD-set-other c (at + 3) j (getD src (at + 3) 0) 0 (omega arith) ∙ getD-set-other b (at + 2) j (getD src (at + 2) 0) 0 (omega arith)
-      ∙ rw f (getD-set-same a (at + 1) (getD src (at + 1) 0) 0 (omega (arith, length-a)))
-  one j l u (no e) (no f) (yes g) = getD-set-other c (at + 3) j (getD src (at + 3) 0) 0 (omega arith) ∙ rw g (getD-set-same b (at + 2) (getD src (at + 2) 0) 0 (omega (arith, length-b)))
-  one j l u (no e) (no f) (no g) = ap (λ (x : ℕ). getD d x 0) last ∙ getD-set-same c (at + 3) (getD src (at + 3) 0) 0 (omega (arith, length-c)) ∙ ap (λ (x : ℕ). getD src x 0) (sym last)
-    where
-      last : j ≡ at + 3
-      last = omega arith
-
-  four : CopiesFour at src dst d
-  unfolding d
-  four = record {
-    size = length-set c (at + 3) (getD src (at + 3) 0) ∙ length-c;
-    before = λ j l. other j (omega arith) (omega arith) (omega arith) (omega arith);
-    copied = λ j l u. one j l u (ℕ-discrete j at) (ℕ-discrete j (at + 1)) (ℕ-discrete j (at + 2));
-    past = λ j l. other j (omega arith) (omega arith) (omega arith) (omega arith);
-  }
-
-  pub copies-four : CopiesFour at src dst (set (set (set (set dst at (getD src at 0)) (at + 1) (getD src (at + 1) 0)) (at + 2) (getD src (at + 2) 0)) (at + 3) (getD src (at + 3) 0))
-  unfolding a b c d
-  copies-four = four
+-- as the code copies them, as one word
+pub copies-four : {at w : ℕ} {src dst r : List ℕ} → WordAt src at w → Puts at (bytesOf w) dst r → CopiesFour at src dst r
+copies-four {at} {w} {src} {dst} {r} read p = record { size = p .size; before = p .before; copied = copied; past = p .past }
+  where
+    copied : (j : ℕ) → at ≤ j → j < at + 4 → getD r j 0 ≡ getD src j 0
+    copied j l u = ap (λ (x : ℕ). getD r x 0) there ∙ p .put (j - at) (omega arith) ∙ ap (λ (b : List ℕ). getD b (j - at) 0) (read .bytes)
+        ∙ four-at src at (j - at) (omega arith) ∙ ap (λ (x : ℕ). getD src x 0) (sym there)
+      where
+        there : j ≡ at + (j - at)
+        there = omega arith
 
 -- the copy under way: the places before i are copied
 pub record Copying (code out : List ℕ) (i : ℕ) (buf : List ℕ) : Type 0 where

@@ -7,6 +7,7 @@ ghost use Rattle.dimension.specs.Sizes.{longestOfAll};
 ghost use Rattle.steps.specs.Copying.{CopiesFour};
 use dimension::Dim;
 use entries::check;
+use entries::words;
 
 // Where the last four bytes of the longest code begin.
 const LAST_FOUR: usize = Dim::LONGEST_CODE - 4;
@@ -16,14 +17,7 @@ fn copy_four(src: &[u8], at: usize, dst: &mut [u8])
     requires { ⌜ (at + 4 ≤ length (now src)) × (at + 4 ≤ length (now dst)) ⌝ }
     ensures { λ r. ⌜ CopiesFour at (now (src .entry)) (now (dst .entry)) (now (dst .exit)) ⌝ }
 {
-    let a = src[at];
-    let b = src[at + 1];
-    let c = src[at + 2];
-    let d = src[at + 3];
-    dst[at] = a;
-    dst[at + 1] = b;
-    dst[at + 2] = c;
-    dst[at + 3] = d;
+    words::put(words::word_at(src, at), dst, at);
 }
 
 // Copies the first n bytes of a code, four at a time: every code has four. Where there are fewer than the longest code has, it

@@ -1,15 +1,22 @@
--- `mark_of` meets its contract: the shifted bit fits a byte.
-use mathlib.Core.Path.{sym, ap, _∙_}
+-- `mark_of` meets its contract: the bit at the axis, one place down.
+use mathlib.Core.Path.{_∙_}
+use native.Mathlib.Omega.{arith}
+use Rattle.entries.specs.Masks.{mark-as, mark-past}
 use borrow.Author.Needs.{needs}
-use Rattle.entries.specs.Masks.{markOf, mark-none, mark-over, mark-as}
 use Rattle.entries.proofs.mark_of.Statement.{statement}
 use Rattle.entries.proofs.mark_of.Tie as tie
 
+returns : tie.Need-returns
+returns c =
+    let axis : tie.After-axis-of = search in
+    let wide : tie.After-wide = search in
+    mark-past (wide .wide .ensures .0 ∙ axis .axis-of .ensures) (c .if1 .taken)
+
+returns-2 : tie.Need-returns-2
+returns-2 c =
+    let axis : tie.After-axis-of = search in
+    let wide : tie.After-wide = search in
+    mark-as (wide .wide .ensures .0 ∙ axis .axis-of .ensures) (omega (arith, c .if1 .left))
+
 pub mark-of-spec : {M : Type 1} → statement M
-mark-of-spec = tie.close
-    (tie.spec
-    (λ c κs. search needs)
-    (λ c. sym (mark-none (c .before .axis-of .result) (c .if1 .taken)) ∙ ap markOf (c .before .axis-of .ensures))
-    (λ c. sym (mark-over (c .before .before .axis-of .result) (c .if2 .taken)) ∙ ap markOf (c .before .before .axis-of .ensures))
-    (λ c. search needs)
-    (λ c. mark-as (c .before .before .axis-of .result) (c .before .if1 .left) (c .if2 .left) ∙ ap markOf (c .before .before .axis-of .ensures)))
+mark-of-spec = tie.close (tie.spec (λ c κs. search needs) (λ c κs. search needs) returns (λ c. search needs) returns-2)

@@ -3,8 +3,8 @@ use mathlib.Core.Path.{sym, _∙_}
 use Prim.Native.Nat.{_-_, _≤_}
 use lib.ListN.{length}
 use native.Mathlib.Omega.{arith}
-use borrow.Author.Tests.{not-true, not-false}
 use Rattle.entries.specs.Walks.{PlainSoFar, plain-none, plain-next, plain-fail, plain-all, root-permutes}
+use Rattle.entries.specs.Words.{none-behind}
 use borrow.Author.Needs.{needs}
 use Rattle.entries.proofs.check.is_root.Statement.{statement}
 use Rattle.entries.proofs.check.is_root.Tie as tie
@@ -23,8 +23,17 @@ returns-2 c =
 
 returns-3 : tie.Need-returns-3 Inv-loop μ-loop
 returns-3 c =
+    let start : tie.Start Inv-loop μ-loop = search in
+    let word : tie.After-first-word Inv-loop μ-loop = search in
     let permuted : tie.After-permuted Inv-loop μ-loop = search in
-    plain-all (c .before .loop .inv .1) (sym (permuted .permuted .ensures) ∙ not-false _ (c .before .before .if1 .left)) (c .before .loop .inv .0) (omega arith)
+    let passed : tie.Else1 Inv-loop μ-loop = search in
+    plain-all (c .before .loop .inv .1) (start .pre .1) (word .first-word .ensures .bytes) (permuted .permuted .ensures) (passed .if1 .left) (c .before .loop .inv .0) (omega arith)
+
+returns : tie.Need-returns Inv-loop μ-loop
+returns c =
+    let start : tie.Start Inv-loop μ-loop = search in
+    let word : tie.After-first-word Inv-loop μ-loop = search in
+    root-permutes (start .args .root .now) (start .pre .1) (word .first-word .ensures .bytes) (c .before .permuted .ensures) (c .if1 .taken)
 
 pub is-root-spec : {M : Type 1} → statement M
 is-root-spec =
@@ -32,8 +41,9 @@ is-root-spec =
     (tie.spec
     Inv-loop
     μ-loop
-    (λ c κs. (c .before .pre .0, c .before .pre .1, omega arith))
-    (λ c. root-permutes _ (sym (c .before .permuted .ensures) ∙ not-true _ (c .if1 .taken)))
+    (λ c κs. search needs)
+    (λ c κs. let start : tie.Start Inv-loop μ-loop = search in (start .pre .0, start .pre .1, none-behind (start .args .root .now) (c .first-word .ensures .bytes)))
+    returns
     (λ c. (omega arith, plain-none _))
     (λ c. search needs)
     (λ c κs. search needs)

@@ -6,12 +6,12 @@ use Rattle.entries.proofs.words.word_at.Tie as tie
 
 returns : tie.Need-returns
 returns c =
+    let start : tie.Start = search in
     let first : tie.After-wide = search in
     let second : tie.After-wide2 = search in
     let third : tie.After-wide3 = search in
-    let start : tie.Start = search in
-    let known : tie.After-shared-slice-known4 = search in
-    word-at (start .args .bytes .now) (start .args .at) (known .shared-slice-known4 .given) (first .wide .ensures .0) (second .wide2 .ensures .0) (third .wide3 .ensures .0) (c .wide4 .ensures .0)
+    let f = first .wide .ensures in let g = second .wide2 .ensures in let h = third .wide3 .ensures in let k = c .wide4 .ensures in
+    word-at (start .args .bytes .now) (start .args .at) (f .0) (g .0) (h .0) (k .0) (f .1) (g .1) (h .1) (k .1)
 
 pub word-at-spec : {M : Type 1} → statement M
 word-at-spec =

@@ -1,8 +1,8 @@
 -- `flip` meets its contract: the shifted bit fits a byte, and xor flips it alone.
-use Rattle.moves.specs.Carrying.{flipped-as}
+use Rattle.moves.specs.CarryWords.{flipped-as}
 use borrow.Author.Needs.{needs}
-use Rattle.moves.proofs.flip.Statement.{statement}
-use Rattle.moves.proofs.flip.Tie as tie
+use Rattle.moves.proofs.carries.flip.Statement.{statement}
+use Rattle.moves.proofs.carries.flip.Tie as tie
 
 pub flip-spec : {M : Type 1} → statement M
 flip-spec = tie.close
