@@ -50,9 +50,9 @@ pub fn carry_end(code: &[u8], from: usize, e: u8) -> usize
     ensures { λ r. ⌜ Ends (minus e) (axis e) (now (code .entry)) from r ⌝ }
 {
     let n = code.len();
-    let few = passed(words::word_at(code, n - 4), e);
-    if few < 4 {
-        return higher(from, n - few);
+    let count = passed(words::word_at(code, n - 4), e);
+    if count < 4 {
+        return higher(from, n - count);
     }
     let mut end = n - 4;
     while from < end {

@@ -18,11 +18,12 @@ abbrev μ-loop : tie.MeasureT-loop
 loop-again : tie.Need-loop-again Inv-loop μ-loop
 loop-again c =
     let start : tie.Start Inv-loop μ-loop = search in
-    let inv = c .before .before .loop .inv in (
+    let turn : tie.At-loop Inv-loop μ-loop = search in
+    let inv = turn .loop .inv in (
       omega arith,
       simp length-set (inv .1),
       rw (inv .2)
-          (copied-next (start .args .dst .now) (start .args .to) (start .args .from) (start .args .src .now) (c .before .before .loop .i) (omega arith) (omega arith)),
+          (copied-next (start .args .dst .now) (start .args .to) (start .args .from) (start .args .src .now) (turn .loop .i) (omega arith) (omega arith)),
     )
 
 pub copy-spec : {M : Type 1} → statement M
@@ -40,4 +41,4 @@ copy-spec =
     (λ c. search needs)
     loop-again
     (λ c. search needs)
-    (λ c. let e : c .before .loop .i ≡ c .before .before .args .n = omega arith in rw (← e) (c .before .loop .inv .2)))
+    (λ c. let start : tie.Start Inv-loop μ-loop = search in let e : c .before .loop .i ≡ start .args .n = omega arith in rw (← e) (c .before .loop .inv .2)))

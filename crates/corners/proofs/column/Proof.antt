@@ -16,7 +16,8 @@ loop-again : tie.Need-loop-again Inv-loop μ-loop
 loop-again c =
     let value : tie.After-coordinate Inv-loop μ-loop = search in
     let turn : tie.At-loop Inv-loop μ-loop = search in
-    fill-next (turn .loop .inv) (omega arith) (value .coordinate .ensures) (c .before .before .put .ensures)
+    let put : tie.After-put Inv-loop μ-loop = search in
+    fill-next (turn .loop .inv) (omega arith) (value .coordinate .ensures) (put .put .ensures)
 
 pub column-spec : {M : Type 1} → statement M
 column-spec =
@@ -25,10 +26,10 @@ column-spec =
     Inv-loop
     μ-loop
     (λ c. search (needs, fill-start))
-    (λ c. omega (arith, fill-room (c .before .before .loop .inv) (omega arith)))
-    (λ c. omega (arith, c .before .before .loop .inv .ready .low))
-    (λ c. omega (arith, fill-room (c .before .before .loop .inv) (omega arith)))
-    (λ c κs. fill-fair (c .before .before .loop .inv) (omega arith))
+    (λ c. let turn : tie.At-loop Inv-loop μ-loop = search in omega (arith, fill-room (turn .loop .inv) (omega arith)))
+    (λ c. let turn : tie.At-loop Inv-loop μ-loop = search in omega (arith, turn .loop .inv .ready .low))
+    (λ c. let turn : tie.At-loop Inv-loop μ-loop = search in omega (arith, fill-room (turn .loop .inv) (omega arith)))
+    (λ c κs. let turn : tie.At-loop Inv-loop μ-loop = search in fill-fair (turn .loop .inv) (omega arith))
     (λ c κs. let turn : tie.At-loop Inv-loop μ-loop = search in fill-room (turn .loop .inv) (omega arith))
     (λ c. let turn : tie.At-loop Inv-loop μ-loop = search in omega (arith, turn .loop .inv .ready .few))
     (λ c. search needs)

@@ -18,7 +18,8 @@ loop-again c =
     let size : tie.After-size Inv-loop μ-loop = search in
     let byte : tie.After-axis-of Inv-loop μ-loop = search in
     let turn : tie.In-loop Inv-loop μ-loop = search in
-    draw-next (turn .before .loop .inv) (turn .loop-test .taken) (byte .axis-of .ensures) (size .size .ensures) (line .line-of .ensures) (c .before .before .column .ensures)
+    let column : tie.After-column Inv-loop μ-loop = search in
+    draw-next (turn .before .loop .inv) (turn .loop-test .taken) (byte .axis-of .ensures) (size .size .ensures) (line .line-of .ensures) (column .column .ensures)
 
 pub write-cell-spec : {M : Type 1} → statement M
 write-cell-spec =

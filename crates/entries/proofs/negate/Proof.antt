@@ -7,18 +7,21 @@ use Rattle.entries.proofs.negate.Tie as tie
 
 sub-byte-of : tie.Need-sub-byte-of
 sub-byte-of c =
-    let args = c .before .before .args in
+    let start : tie.Start = search in
+    let args = start .args in
     negation-fits (args .e) (omega arith) _ (c .signed-of .ensures)
 
 byte-of-requires : tie.Need-byte-of-requires
 byte-of-requires c κs =
-    let args = c .before .before .args in
+    let start : tie.Start = search in
+    let args = start .args in
     negation-again (args .e) (omega arith) _ (c .signed-of .ensures)
 
 returns-2 : tie.Need-returns-2
 returns-2 c =
     let start : tie.Start = search in
-    negation-byte (start .args .e) (omega arith) _ (c .before .signed-of .ensures) (c .before .before .if1 .left) _ (c .byte-of .ensures)
+    let plus : tie.Else1 = search in
+    negation-byte (start .args .e) (omega arith) _ (c .before .signed-of .ensures) (plus .if1 .left) _ (c .byte-of .ensures)
 
 pub negate-spec : {M : Type 1} → statement M
 negate-spec =

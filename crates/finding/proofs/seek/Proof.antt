@@ -16,7 +16,10 @@ abbrev μ-loop : tie.MeasureT-loop
 μ-loop edition sheet dimension first begins deepest stretch number₀ offset₀ ahead₀ number offset ahead = length sheet - offset
 
 add-offset : tie.Need-add-offset Inv-loop μ-loop
-add-offset c = let read = c .before .before .before .before .before in omega (arith, record-fits (seek-at (read .before .before .loop .inv)) (read .code-depth .ensures) (c .record-length .ensures))
+add-offset c =
+    let turn : tie.At-loop Inv-loop μ-loop = search in
+    let read : tie.After-code-depth Inv-loop μ-loop = search in
+    omega (arith, record-fits (seek-at (turn .loop .inv)) (read .code-depth .ensures) (c .record-length .ensures))
 
 pub seek-spec : {M : Type 1} → statement M
 seek-spec =

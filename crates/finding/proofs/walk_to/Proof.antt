@@ -16,21 +16,36 @@ abbrev μ-loop : tie.MeasureT-loop
 μ-loop edition sheet dimension number to deepest stretch n₀ offset₀ place₀ n offset place = to - n
 
 code-depth-requires : tie.Need-code-depth-requires Inv-loop μ-loop
-code-depth-requires c κs = let test = c .before in record-code (walk-at (test .before .loop .inv) (test .loop-test .taken))
+code-depth-requires c κs =
+    let turn : tie.At-loop Inv-loop μ-loop = search in
+    let test : tie.In-loop Inv-loop μ-loop = search in
+    record-code (walk-at (turn .loop .inv) (test .loop-test .taken))
 
 sub-power : tie.Need-sub-power Inv-loop μ-loop
-sub-power c = let test = c .before .before in record-above (walk-at (test .before .loop .inv) (test .loop-test .taken)) (c .code-depth .ensures)
+sub-power c =
+    let turn : tie.At-loop Inv-loop μ-loop = search in
+    let test : tie.In-loop Inv-loop μ-loop = search in
+    record-above (walk-at (turn .loop .inv) (test .loop-test .taken)) (c .code-depth .ensures)
 
 power-requires-2 : tie.Need-power-requires-2 Inv-loop μ-loop
-power-requires-2 c κs = let test = c .before .before in record-power (walk-at (test .before .loop .inv) (test .loop-test .taken)) (c .code-depth .ensures)
+power-requires-2 c κs =
+    let turn : tie.At-loop Inv-loop μ-loop = search in
+    let test : tie.In-loop Inv-loop μ-loop = search in
+    record-power (walk-at (turn .loop .inv) (test .loop-test .taken)) (c .code-depth .ensures)
 
 record-length-requires : tie.Need-record-length-requires Inv-loop μ-loop
-record-length-requires c κs = let read = c .before .before in let test = read .before .before in
-    let at = walk-at (test .before .loop .inv) (test .loop-test .taken) in (record-known at, record-deep at (read .code-depth .ensures))
+record-length-requires c κs =
+    let turn : tie.At-loop Inv-loop μ-loop = search in
+    let test : tie.In-loop Inv-loop μ-loop = search in
+    let read : tie.After-code-depth Inv-loop μ-loop = search in
+    let at = walk-at (turn .loop .inv) (test .loop-test .taken) in (record-known at, record-deep at (read .code-depth .ensures))
 
 add-offset : tie.Need-add-offset Inv-loop μ-loop
-add-offset c = let read = c .before .before .before in let test = read .before .before in
-    omega (arith, record-fits (walk-at (test .before .loop .inv) (test .loop-test .taken)) (read .code-depth .ensures) (c .record-length .ensures))
+add-offset c =
+    let turn : tie.At-loop Inv-loop μ-loop = search in
+    let test : tie.In-loop Inv-loop μ-loop = search in
+    let read : tie.After-code-depth Inv-loop μ-loop = search in
+    omega (arith, record-fits (walk-at (turn .loop .inv) (test .loop-test .taken)) (read .code-depth .ensures) (c .record-length .ensures))
 
 pub walk-to-spec : {M : Type 1} → statement M
 walk-to-spec =

@@ -6,7 +6,8 @@ use Rattle.fours.proofs.entry_in.Tie as tie
 
 returns-2 : tie.Need-returns-2
 returns-2 c =
-    let args = c .before .before .args in
+    let start : tie.Start = search in
+    let args = start .args in
     entry-some (args .d) (args .n) _ (c .before .if1 .left)
 
 pub entry-in-spec : {M : Type 1} → statement M

@@ -9,14 +9,16 @@ use Rattle.fours.proofs.write.Tie as tie
 
 add-out : tie.Need-add-out
 add-out c =
-    let args = c .before .before .args in
-    let pre = c .before .before .pre in
+    let start : tie.Start = search in
+    let args = start .args in
+    let pre = start .pre in
     omega (arith, c .place-in .ensures, place-within 3 (args .d) (omega arith), pre .2)
 
 slice-write-out : tie.Need-slice-write-out
 slice-write-out c =
-    let args = c .before .before .args in
-    let pre = c .before .before .pre in
+    let start : tie.Start = search in
+    let args = start .args in
+    let pre = start .pre in
     omega (arith, c .place-in .ensures, place-within 3 (args .d) (omega arith), pre .2)
 
 add-out-2 : tie.Need-add-out-2

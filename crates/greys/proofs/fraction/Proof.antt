@@ -7,5 +7,5 @@ pub fraction-spec : {M : Type 1} → statement M
 fraction-spec = tie.close
     (tie.spec
     (λ c. cast-sum (c .before .pre .0))
-    (λ c. cast-side (c .before .before .pre .1))
-    (λ c. divided (c .before .before .pre .0) (c .before .before .pre .1)))
+    (λ c. let start : tie.Start = search in cast-side (start .pre .1))
+    (λ c. let start : tie.Start = search in divided (start .pre .0) (start .pre .1)))

@@ -20,7 +20,11 @@ loop-holds c =
     rw (c .size .ensures, c .before .axes .ensures) (summing-start (start .pre) (axes-range (start .args .dim) .few) (omega (arith, start .good)))
 
 returns : tie.Need-returns Inv-loop μ-loop
-returns c = let s = c .before .before in summing-end (rw (s .size .ensures, s .before .axes .ensures) at (c .before .loop .inv)) (omega arith)
+returns c =
+    let axes : tie.After-axes Inv-loop μ-loop = search in
+    let size : tie.After-size Inv-loop μ-loop = search in
+    let turn : tie.At-loop Inv-loop μ-loop = search in
+    summing-end (rw (size .size .ensures, axes .axes .ensures) at (turn .loop .inv)) (omega arith)
 
 pub grey-sum-spec : {M : Type 1} → statement M
 grey-sum-spec =
@@ -34,9 +38,9 @@ grey-sum-spec =
     (λ c. search needs)
     (λ c. search needs)
     (λ c κs. summing-room (c .before .loop .inv) (omega arith))
-    (λ c. omega (arith, summing-small (summing-next (c .before .before .loop .inv) (omega arith) (c .sample .ensures))))
-    (λ c. omega (arith, summing-small (summing-next (c .before .before .loop .inv) (omega arith) (c .sample .ensures))))
+    (λ c. let turn : tie.At-loop Inv-loop μ-loop = search in omega (arith, summing-small (summing-next (turn .loop .inv) (omega arith) (c .sample .ensures))))
+    (λ c. let turn : tie.At-loop Inv-loop μ-loop = search in omega (arith, summing-small (summing-next (turn .loop .inv) (omega arith) (c .sample .ensures))))
     (λ c. search needs)
     (λ c. search needs)
-    (λ c. rw add-one (summing-next (c .before .before .loop .inv) (omega arith) (c .sample .ensures)))
+    (λ c. let turn : tie.At-loop Inv-loop μ-loop = search in rw add-one (summing-next (turn .loop .inv) (omega arith) (c .sample .ensures)))
     returns)

@@ -8,7 +8,8 @@ use Rattle.listing.proofs.put_good.Tie as tie
 
 record-parts-requires : tie.Need-record-parts-requires
 record-parts-requires c κs =
-    let pre = c .before .before .pre in
+    let start : tie.Start = search in
+    let pre = start .pre in
     first-record (pre .0) .passes
 
 put-line-requires : tie.Need-put-line-requires

@@ -16,12 +16,13 @@ abbrev μ-loop : tie.MeasureT-loop
 
 loop-holds : tie.Need-loop-holds Inv-loop μ-loop
 loop-holds c =
-    let start = c .before .before in
+    let start : tie.Start Inv-loop μ-loop = search in
     on-start _ _ refl (start .args .sheet .now) (start .args .records) (start .args .from) (start .args .out .now) (start .pre .0) (start .pre .1)
 
 record-parts-requires : tie.Need-record-parts-requires Inv-loop μ-loop
 record-parts-requires c κs =
-    let loop = c .before .before .loop in
+    let turn : tie.At-loop Inv-loop μ-loop = search in
+    let loop = turn .loop in
     on-line (loop .inv) (c .before .loop-test .taken) .passes
 
 add-code : tie.Need-add-code Inv-loop μ-loop

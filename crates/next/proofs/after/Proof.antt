@@ -38,7 +38,7 @@ after-spec =
     (λ c κs. let up : tie.After-climb = search in after-small (risen up) (c .before .if1 .left))
     (λ c. let more : tie.Else1 = search in let up : tie.After-climb = search in after-place (risen up) (more .if1 .left) (c .before .axes .ensures) (c .place-above .ensures))
     (λ c κs. let more : tie.Else1 = search in let up : tie.After-climb = search in after-turn (risen up) (more .if1 .left) (c .before .axes .ensures) (c .place-above .ensures))
-    (λ c κs. let more : tie.Else1 = search in let up : tie.After-climb = search in after-boxes (risen up) (more .if1 .left) (c .before .before .axes .ensures))
+    (λ c κs. let more : tie.Else1 = search in let up : tie.After-climb = search in let axes : tie.After-axes = search in after-boxes (risen up) (more .if1 .left) (axes .axes .ensures))
     (λ c κs. search needs)
     filled-requires
     (λ c. let more : tie.Else1 = search in let up : tie.After-climb = search in record { fits = after-number (risen up) (more .if1 .left) })

@@ -7,20 +7,23 @@ use Rattle.next.proofs.filled.Tie as tie
 
 div-result : tie.Need-div-result
 div-result c =
-    let args = c .before .before .args in
-    let pre = c .before .before .pre in
+    let start : tie.Start = search in
+    let args = start .args in
+    let pre = start .pre in
     fill-some (args .from) (args .own) (pre .0) (pre .1) _ (c .before .power .ensures)
 
 mul-result-2 : tie.Need-mul-result-2
 mul-result-2 c =
-    let args = c .before .before .args in
-    let pre = c .before .before .pre in
+    let start : tie.Start = search in
+    let args = start .args in
+    let pre = start .pre in
     record { fits = rw (c .wide .ensures) (omega (arith, fill-high (args .from) (args .own) (pre .0) (pre .1) _ (c .before .power .ensures))) }
 
 add-result : tie.Need-add-result
 add-result c =
-    let args = c .before .before .args in
-    let pre = c .before .before .pre in
+    let start : tie.Start = search in
+    let args = start .args in
+    let pre = start .pre in
     record {
       fits = rw (c .wide .ensures) (omega (
         arith,
@@ -32,8 +35,9 @@ add-result c =
 
 returns : tie.Need-returns
 returns c =
-    let args = c .before .before .args in
-    let pre = c .before .before .pre in
+    let start : tie.Start = search in
+    let args = start .args in
+    let pre = start .pre in
     rw (c .wide .ensures) (fill-is (args .from) (args .own) (pre .0) (pre .1) _ (c .before .power .ensures) (args .boxes))
 
 pub filled-spec : {M : Type 1} → statement M

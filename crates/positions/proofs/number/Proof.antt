@@ -22,7 +22,7 @@ number-spec =
     (λ c. search needs)
     (λ c. omega (arith, numbering-times (c .before .loop .inv)))
     (λ c κs. search needs)
-    (λ c. omega (arith, numbering-sum (c .before .before .loop .inv) (c .smaller .ensures)))
+    (λ c. let turn : tie.At-loop Inv-loop μ-loop = search in omega (arith, numbering-sum (turn .loop .inv) (c .smaller .ensures)))
     (λ c. search needs)
     (λ c. search needs)
     (λ c. search (needs, numbering-next))

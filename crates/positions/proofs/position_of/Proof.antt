@@ -43,8 +43,8 @@ pub position-of-spec : {M : Type 1} → statement M
 position-of-spec =
     tie.close
     (tie.spec
-    (λ c. omega (arith, checked-two _ (c .before .before .pre)))
-    (λ c κs. unfold dimensionOf in checked _ (c .before .before .pre) .good .dimension)
+    (λ c. let start : tie.Start = search in omega (arith, checked-two _ (start .pre)))
+    (λ c κs. let start : tie.Start = search in unfold dimensionOf in checked _ (start .pre) .good .dimension)
     (λ c κs. search needs)
     (λ c. let start : tie.Start = search in omega (arith, checked-two _ (start .pre)))
     (λ c κs. search needs)

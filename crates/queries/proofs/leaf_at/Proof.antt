@@ -6,8 +6,10 @@ use Rattle.queries.proofs.leaf_at.Tie as tie
 
 returns-4 : tie.Need-returns-4
 returns-4 c =
-    let written = c .before .before in let boxes = written .before .before in let chosen = boxes .before .before in let roomy = chosen .before in let axes = roomy .before in
-    let good = axes .before in let point = good .before in let checked = point .before in let passed = checked .before in let opened = passed .before .before in
+    let written : tie.After-write-weights = search in let boxes : tie.After-box-depth = search in let chosen : tie.After-leaf-record = search in
+    let roomy : tie.Else3 = search in let axes : tie.After-axes = search in
+    let good : tie.Else2 = search in let point : tie.After-is-point = search in let checked : tie.After-checked = search in
+    let passed : tie.Else1 = search in let opened : tie.After-check-sheet = search in
     leaf-done (opened-ready (opened .check-sheet .ensures) (passed .if1 .left) (checked .checked .ensures) (point .is-point .ensures) (good .if2 .left)) (chosen .leaf-record .ensures) (checked .checked .ensures)
     (boxes .box-depth .ensures) (axes .axes .ensures) (roomy .if3 .left) (written .write-weights .ensures)
 

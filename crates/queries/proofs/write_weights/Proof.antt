@@ -13,7 +13,11 @@ abbrev μ-loop : tie.MeasureT-loop
 μ-loop boxes out₀ weights axes n₀ out n = suc axes - n
 
 loop-again : tie.Need-loop-again Inv-loop μ-loop
-loop-again c = let put = c .before .before in let test = put .before .before in writing-next (test .before .loop .inv) (test .loop-test .taken) (put .put-weight .ensures)
+loop-again c =
+    let turn : tie.At-loop Inv-loop μ-loop = search in
+    let test : tie.In-loop Inv-loop μ-loop = search in
+    let put : tie.After-put-weight Inv-loop μ-loop = search in
+    writing-next (turn .loop .inv) (test .loop-test .taken) (put .put-weight .ensures)
 
 pub write-weights-spec : {M : Type 1} → statement M
 write-weights-spec =

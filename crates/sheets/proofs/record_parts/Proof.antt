@@ -9,7 +9,7 @@ use Rattle.sheets.proofs.record_parts.Tie as tie
 
 code-head-requires : tie.Need-code-head-requires
 code-head-requires c κs =
-    let start = c .before .before in
+    let start : tie.Start = search in
     rw (part-marked (start .args .edition .first) (start .args .edition .second) (start .args .bytes .now)) (marked-two _ _ (parts-marked _ _ _ (start .pre)))
 
 add-t10 : tie.Need-add-t10

@@ -7,14 +7,16 @@ use Rattle.sheets.proofs.samples_length.Tie as tie
 
 mul-result : tie.Need-mul-result
 mul-result c =
-    let the-args = c .before .before .args in
+    let start : tie.Start = search in
+    let the-args = start .args in
     let args = the-args in
     let small = samples-as (args .width) (args .dimension) _ _ (c .before .size .ensures) (c .size2 .ensures) in omega
     (arith, small .1, samples-small (args .width) (args .dimension) (omega arith) (omega arith))
 
 returns : tie.Need-returns
 returns c =
-    let the-args = c .before .before .args in
+    let start : tie.Start = search in
+    let the-args = start .args in
     let args = the-args in
     let small = samples-as (args .width) (args .dimension) _ _ (c .before .size .ensures) (c .size2 .ensures) in
     (small .1, omega (arith, small .1, samples-small (args .width) (args .dimension) (omega arith) (omega arith)))

@@ -10,13 +10,13 @@ use Rattle.steps.proofs.write_parent.Tie as tie
 
 mul-k : tie.Need-mul-k
 mul-k c =
-    let axes = c .before .before .axes in
-    record { fits = split-fits _ _ _ _ (axes .ensures) (c .before .box-depth .ensures) (omega arith) }
+    let axes : tie.After-axes = search in
+    record { fits = split-fits _ _ _ _ (axes .axes .ensures) (c .before .box-depth .ensures) (omega arith) }
 
 sub-k : tie.Need-sub-k
 sub-k c =
-    let axes = c .before .before .axes in
-    split-sub _ _ _ _ (axes .ensures) (c .before .box-depth .ensures)
+    let axes : tie.After-axes = search in
+    split-sub _ _ _ _ (axes .axes .ensures) (c .before .box-depth .ensures)
 
 sub-k-2 : tie.Need-sub-k-2
 sub-k-2 c =

@@ -15,11 +15,12 @@ add-result : tie.Need-add-result
 add-result c =
     let start : tie.Start = search in
     let shared-slice-known2 : tie.After-shared-slice-known2 = search in
+    let low : tie.After-wide = search in
     let a = start .args .axis in
-    omega (arith, c .wide2 .ensures, c .before .shared-slice-known3 .given (2 * (a - 1) + 1), c .before .before .wide .ensures, shared-slice-known2 .shared-slice-known2 .given (2 * (a - 1)))
+    omega (arith, c .wide2 .ensures, c .before .shared-slice-known3 .given (2 * (a - 1) + 1), low .wide .ensures, shared-slice-known2 .shared-slice-known2 .given (2 * (a - 1)))
 
 returns : tie.Need-returns
-returns c = rw (c .wide2 .ensures, c .before .before .wide .ensures) (coordinate-bytes _ _ (omega arith) (omega arith))
+returns c = let low : tie.After-wide = search in rw (c .wide2 .ensures, low .wide .ensures) (coordinate-bytes _ _ (omega arith) (omega arith))
 
 pub coordinate-at-spec : {M : Type 1} → statement M
 coordinate-at-spec =

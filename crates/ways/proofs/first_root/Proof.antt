@@ -24,6 +24,6 @@ first-root-spec =
     (λ c. search (needs, axes-dimension, search-start))
     (λ c κs. at-root-n (c .loop .inv))
     (λ c. search (needs, search-end))
-    (λ c. omega (arith, search-few (c .before .before .loop .inv)))
-    (λ c. omega (arith, search-few (c .before .before .loop .inv)))
+    (λ c. let turn : tie.At-loop Inv-loop μ-loop = search in omega (arith, search-few (turn .loop .inv)))
+    (λ c. let turn : tie.At-loop Inv-loop μ-loop = search in omega (arith, search-few (turn .loop .inv)))
     (λ c. rw add-one (search (needs, search-next))))

@@ -27,7 +27,7 @@ is-point-spec =
     Inv-loop
     μ-loop
     (λ c κs. tt)
-    (λ c. omega (arith, axes-range (c .before .before .args .dim)))
+    (λ c. let start : tie.Start Inv-loop μ-loop = search in omega (arith, axes-range (start .args .dim)))
     (λ c. test-length (c .before .axes .ensures) _ (c .if1 .taken))
     (λ c κs. tt)
     (λ c. test-start (omega arith))

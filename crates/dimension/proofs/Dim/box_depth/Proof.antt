@@ -9,12 +9,14 @@ use Rattle.dimension.proofs.Dim.box_depth.Tie as tie
 
 mul-result : tie.Need-mul-result
 mul-result c =
-    let args = c .before .before .args in
+    let start : tie.Start = search in
+    let args = start .args in
     record { fits = share-fits _ (args .depth) (c .share .result) (axes-range (args .self)) (c .share .ensures .0) (c .share .ensures .1) (c .before .if1 .taken) }
 
 returns : tie.Need-returns
 returns c =
-    let args = c .before .before .args in
+    let start : tie.Start = search in
+    let args = start .args in
     box-depth-by _ (args .depth) (c .share .result) (axes-range (args .self)) (c .share .ensures .0) (c .share .ensures .1) (c .before .if1 .taken)
 
 pub box-depth-spec : {M : Type 1} → statement M
@@ -25,5 +27,5 @@ box-depth-spec =
     mul-result
     returns
     (λ c κs. search needs)
-    (λ c. omega (arith, c .axes .ensures, (axes-range (c .before .before .args .self)) .two))
+    (λ c. let start : tie.Start = search in omega (arith, c .axes .ensures, (axes-range (start .args .self)) .two))
     (λ c. unfold boxDepth in rw (c .axes .ensures) refl))

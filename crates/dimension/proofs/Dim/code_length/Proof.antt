@@ -8,7 +8,8 @@ use Rattle.dimension.proofs.Dim.code_length.Tie as tie
 
 add-result-2 : tie.Need-add-result-2
 add-result-2 c =
-    let args = c .before .before .args in
+    let start : tie.Start = search in
+    let args = start .args in
     omega (arith, axes-range (args .self) .few, box-small (axesOf (args .self)) (args .depth) (axes-range (args .self)))
 
 pub code-length-spec : {M : Type 1} → statement M

@@ -10,4 +10,4 @@ longest-code-spec = tie.close
     (tie.spec
     (λ c κs. search needs)
     (λ c κs. search needs)
-    (λ c. unfold longestCode in c .code-length .ensures ∙ ap (codeLength (axesOf (c .before .before .args .self))) (c .before .greatest-depth .ensures)))
+    (λ c. let start : tie.Start = search in unfold longestCode in c .code-length .ensures ∙ ap (codeLength (axesOf (start .args .self))) (c .before .greatest-depth .ensures)))

@@ -14,5 +14,5 @@ split-place-spec =
     (λ c κs. search needs)
     (λ c. record { fits = split-fits _ _ _ _ (c .before .axes .ensures) (c .box-depth .ensures) (omega arith) })
     (λ c. split-sub _ _ _ _ (c .before .axes .ensures) (c .box-depth .ensures))
-    (λ c. split-rest _ _ _ _ (omega (arith, (axes-range (c .before .before .args .self)) .two)) (c .before .axes .ensures) (c .box-depth .ensures))
+    (λ c. let start : tie.Start = search in split-rest _ _ _ _ (omega (arith, (axes-range (start .args .self)) .two)) (c .before .axes .ensures) (c .box-depth .ensures))
     (λ c. split-is _ _ _ _ (c .before .axes .ensures) (c .box-depth .ensures)))

@@ -9,6 +9,6 @@ use Rattle.entries.proofs.check.axes_of.Tie as tie
 pub axes-of-spec : {M : Type 1} → statement M
 axes-of-spec = tie.close
     (tie.spec
-    (λ c. omega (arith, checked-two (c .before .before .args .code .now) (c .before .before .pre)))
+    (λ c. let start : tie.Start = search in omega (arith, checked-two (start .args .code .now) (start .pre)))
     (λ c κs. search needs)
     (λ c. unfold dimensionOf in c .size .ensures))

@@ -8,6 +8,6 @@ use Rattle.entries.proofs.check.dimension_of.Tie as tie
 pub dimension-of-spec : {M : Type 1} → statement M
 dimension-of-spec = tie.close
     (tie.spec
-    (λ c. omega (arith, checked-two (c .before .before .args .code .now) (c .before .before .pre)))
-    (λ c κs. unfold dimensionOf in checked (c .before .before .args .code .now) (c .before .before .pre) .good .dimension)
+    (λ c. let start : tie.Start = search in omega (arith, checked-two (start .args .code .now) (start .pre)))
+    (λ c κs. let start : tie.Start = search in unfold dimensionOf in checked (start .args .code .now) (start .pre) .good .dimension)
     (λ c. unfold dimensionOf in c .checked .ensures))

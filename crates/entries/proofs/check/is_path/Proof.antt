@@ -21,7 +21,7 @@ is-path-spec =
     μ-loop
     (λ c. (omega arith, steps-none _))
     (λ c. search needs)
-    (λ c. let turn : tie.At-loop Inv-loop μ-loop = search in steps-fail (turn .loop .inv .1) (c .before .before .loop-test .taken) (c .if1 .taken))
+    (λ c. let test : tie.In-loop Inv-loop μ-loop = search in let turn : tie.At-loop Inv-loop μ-loop = search in steps-fail (turn .loop .inv .1) (test .loop-test .taken) (c .if1 .taken))
     (λ c. search needs)
     (λ c. search needs)
     (λ c. let turn : tie.At-loop Inv-loop μ-loop = search in (omega arith, steps-next (turn .loop .inv .1) (c .if1 .left)))

@@ -51,7 +51,7 @@ orthants-fit-spec =
     orthants-from-requires
     (λ c. unfold halvings in omega (arith, c .before .loop-test .taken))
     (λ c. unfold halvings in omega (arith, c .before .loop-test .taken))
-    (λ c. fit-next (c .before .before .loop .inv) (c .orthants-from .ensures))
+    (λ c. let turn : tie.At-loop Inv-loop μ-loop = search in fit-next (turn .loop .inv) (c .orthants-from .ensures))
     (λ c κs. search needs)
     (λ c κs. search needs)
     (λ c κs. search needs)

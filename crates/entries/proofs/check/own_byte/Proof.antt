@@ -11,4 +11,4 @@ own-byte-spec = tie.close
     (λ c. own-none _ _ (c .if1 .taken))
     (λ c. search needs)
     (λ c. search needs)
-    (λ c. own-last _ _ (c .before .before .pre .1) (c .before .if1 .left)))
+    (λ c. let start : tie.Start = search in own-last _ _ (start .pre .1) (c .before .if1 .left)))

@@ -18,7 +18,7 @@ abbrev μ-loop : tie.MeasureT-loop
 add-same-sign : tie.Need-add-same-sign Inv-loop μ-loop
 add-same-sign c =
     let start : tie.Start Inv-loop μ-loop = search in
-    omega (arith, c .place-in .ensures, place-within (c .before .before .loop .i) (start .args .k) (start .pre .0), start .pre .1)
+    let turn : tie.At-loop Inv-loop μ-loop = search in omega (arith, c .place-in .ensures, place-within (turn .loop .i) (start .args .k) (start .pre .0), start .pre .1)
 
 shared-slice-read-same-sign : tie.Need-shared-slice-read-same-sign Inv-loop μ-loop
 shared-slice-read-same-sign c =

@@ -17,7 +17,7 @@ split-of-spec =
     (tie.spec
     (λ c. omega (arith, split-read (c .before .args .code .now) (c .before .args .d) (c .before .pre) refl .long))
     (λ c. omega (arith, split-read (c .before .args .code .now) (c .before .args .d) (c .before .pre) refl .long))
-    (λ c. omega (arith, split-read (c .before .before .args .code .now) (c .before .before .args .d) (c .before .before .pre) refl .long))
+    (λ c. let start : tie.Start = search in omega (arith, split-read (start .args .code .now) (start .args .d) (start .pre) refl .long))
     (λ c κs. search needs)
     mul-result
     (λ c. let start : tie.Start = search in split-read _ _ (start .pre) (c .size .ensures) .under)

@@ -14,7 +14,7 @@ abbrev μ-loop : tie.MeasureT-loop
 μ-loop out₀ at bytes to₀ i₀ out to i = length bytes - i
 
 loop-holds : tie.Need-loop-holds Inv-loop μ-loop
-loop-holds c = hexing-start (c .before .before .args .at) (c .before .before .args .bytes .now) (c .before .before .args .out .now) (c .before .before .pre)
+loop-holds c = let start : tie.Start Inv-loop μ-loop = search in hexing-start (start .args .at) (start .args .bytes .now) (start .args .out .now) (start .pre)
 
 add-out : tie.Need-add-out Inv-loop μ-loop
 add-out c =
@@ -42,8 +42,8 @@ put-hex-spec =
     μ-loop
     loop-holds
     (λ c. c .before .loop-test .taken)
-    (λ c κs. omega (arith, c .shared-slice-known2 .given (c .before .before .loop .i)))
-    (λ c. let turn : tie.At-loop Inv-loop μ-loop = search in omega (arith, hexing-room (turn .loop .inv) (c .before .before .loop-test .taken)))
+    (λ c κs. let turn : tie.At-loop Inv-loop μ-loop = search in omega (arith, c .shared-slice-known2 .given (turn .loop .i)))
+    (λ c. let test : tie.In-loop Inv-loop μ-loop = search in let turn : tie.At-loop Inv-loop μ-loop = search in omega (arith, hexing-room (turn .loop .inv) (test .loop-test .taken)))
     (λ c κs. omega arith)
     add-out
     (λ c. let turn : tie.At-loop Inv-loop μ-loop = search in let test : tie.In-loop Inv-loop μ-loop = search in simp length-set (omega (arith, hexing-room (turn .loop .inv) (test .loop-test .taken))))

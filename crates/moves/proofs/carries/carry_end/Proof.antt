@@ -8,10 +8,10 @@ use Rattle.moves.proofs.carries.carry_end.Statement.{statement}
 use Rattle.moves.proofs.carries.carry_end.Tie as tie
 
 abbrev Inv-loop : tie.InvT-loop
-Inv-loop code from e n few end₀ end = Running (minus e) (axis e) code end
+Inv-loop code from e n count end₀ end = Running (minus e) (axis e) code end
 
 abbrev μ-loop : tie.MeasureT-loop
-μ-loop code from e n few end₀ end = end
+μ-loop code from e n count end₀ end = end
 
 pub carry-end-spec : {M : Type 1} → statement M
 carry-end-spec =

@@ -27,12 +27,13 @@ loop-again : tie.Need-loop-again Inv-loop μ-loop
 loop-again c =
     let turn : tie.At-loop Inv-loop μ-loop = search in
     let place-in : tie.After-place-in Inv-loop μ-loop = search in
-    fronted-next (turn .loop .inv) (place-in .place-in .result) (place-in .place-in .ensures) (c .before .before .copy-four .ensures)
+    let copied : tie.After-copy-four Inv-loop μ-loop = search in
+    fronted-next (turn .loop .inv) (place-in .place-in .result) (place-in .place-in .ensures) (copied .copy-four .ensures)
 
 copy-four-requires-2 : tie.Need-copy-four-requires-2 Inv-loop μ-loop
 copy-four-requires-2 c κs =
     let start : tie.Start Inv-loop μ-loop = search in
-    (omega (arith, start .pre .0, start .pre .2), omega (arith, start .pre .0, start .pre .3, c .before .before .loop .inv .so-far .size))
+    let turn : tie.At-loop Inv-loop μ-loop = search in (omega (arith, start .pre .0, start .pre .2), omega (arith, start .pre .0, start .pre .3, turn .loop .inv .so-far .size))
 
 returns : tie.Need-returns Inv-loop μ-loop
 unfolding mostAxes halvings
@@ -40,7 +41,8 @@ returns c =
     let start : tie.Start Inv-loop μ-loop = search in
     let turn : tie.At-loop Inv-loop μ-loop = search in
     let ended : tie.After-loop Inv-loop μ-loop = search in
-    fronted-last (turn .loop .inv) (start .args .n) (c .before .before .copy-four2 .ensures)
+    let last : tie.After-copy-four2 Inv-loop μ-loop = search in
+    fronted-last (turn .loop .inv) (start .args .n) (last .copy-four2 .ensures)
     (omega (arith, longest-is, ended .loop-test .left, start .pre .1)) (omega (arith, start .pre .0)) (start .pre .2)
     (start .pre .3)
 
@@ -50,7 +52,7 @@ copy-front-spec =
     (tie.spec
     Inv-loop
     μ-loop
-    (λ c. c .before .before .pre .0)
+    (λ c. let start : tie.Start Inv-loop μ-loop = search in start .pre .0)
     (λ c. fronted-none _ _ _)
     (λ c κs. search needs)
     copy-four-requires
@@ -58,5 +60,5 @@ copy-front-spec =
     (λ c. let test : tie.In-loop Inv-loop μ-loop = search in unfold mostAxes halvings in omega (arith, longest-is, test .loop-test .taken))
     loop-again
     copy-four-requires-2
-    (λ c. let turn : tie.At-loop Inv-loop μ-loop = search in c .before .before .copy-four2 .ensures .size ∙ turn .loop .inv .so-far .size)
+    (λ c. let turn : tie.At-loop Inv-loop μ-loop = search in let last : tie.After-copy-four2 Inv-loop μ-loop = search in last .copy-four2 .ensures .size ∙ turn .loop .inv .so-far .size)
     returns)

@@ -44,7 +44,8 @@ loop-holds c =
 
 step-requires : tie.Need-step-requires Inv-loop μ-loop
 step-requires c κs =
-    let loop = c .before .before .loop in
+    let turn : tie.At-loop Inv-loop μ-loop = search in
+    let loop = turn .loop in
     fall-few (loop .inv) (c .before .loop-test .taken)
 
 put-box-requires : tie.Need-put-box-requires Inv-loop μ-loop

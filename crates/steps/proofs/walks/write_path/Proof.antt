@@ -27,7 +27,8 @@ loop-holds c =
 
 place-above-requires : tie.Need-place-above-requires Inv-loop μ-loop
 place-above-requires c κs =
-    let loop = c .before .before .loop in
+    let turn : tie.At-loop Inv-loop μ-loop = search in
+    let loop = turn .loop in
     rise-place (loop .inv) (c .before .loop-test .taken)
 
 own-of-requires : tie.Need-own-of-requires Inv-loop μ-loop
