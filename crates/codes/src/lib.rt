@@ -91,6 +91,7 @@ pub fn code_body(code: &[u8]) -> u8
     requires { ⌜ Headed (now code) ⌝ }
     ensures { λ r. ⌜ r ≡ innerRefusal (now (code .entry)) ⌝ }
 {
+    let code = &*code; // lent on anew, it comes in registers
     let d = common::size(code[0]);
     if !check::permuted(words::word_in(code, d), d) {
         return REFUSED_PERMUTATION;

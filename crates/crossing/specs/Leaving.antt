@@ -22,9 +22,7 @@ use Rattle.entries.specs.Walks.{entry-at}
 use Rattle.entries.specs.Passed.{code-few, Checked, checked}
 use Rattle.steps.specs.Copying.{whole-front}
 use Rattle.moves.specs.Carrying.{Ends, Flips, ends-out, ends-stopped, flips-carried}
-use Rattle.crossing.specs.declared.Crossed.{Crossed}
-use Rattle.crossing.specs.Outcome.{Crosses}
-use Rattle.crossing.specs.Answers.{Bare, cross-face, cross-short, cross-done}
+use Rattle.crossing.specs.Landing.{landed, Lands, lands-face, lands-short, lands-done}
 
 -- the row: what the table says, told by the entry e against which the box moves and the place whose sign changes
 pub record Leaving (code : List ℕ) (d at e i : ℕ) : Type 0 where
@@ -201,8 +199,8 @@ module _ {code : List ℕ} {d at e i : ℕ} (r : Leaving code d at e i) where
     unfolding orthantsOf
     wall q = r .wall ∙ sym (ap (λ (x : ℕ). runsOut (minus e) (axis e) (drop (2 + x) code)) (r .axes)) ∙ q
 
-    pub leaving-face : (before : List ℕ) {s : Crossed} → end ≡ 2 + d → Bare refusedFace s → Crosses code i before s before
-    leaving-face before q f = cross-face code before i (r .passes) leaving-facet (wall (ends-out (minus e) (axis e) c q)) f
+    pub leaving-face : (before : List ℕ) → end ≡ 2 + d → Lands code i before refusedFace before
+    leaving-face before q = lands-face code before i (r .passes) leaving-facet (wall (ends-out (minus e) (axis e) c q))
 
     module _ (goes : end ≡ 2 + d → ⊥) where
       open-there : isBlocked code i ≡ false
@@ -211,8 +209,8 @@ module _ {code : List ℕ} {d at e i : ℕ} (r : Leaving code d at e i) where
       pub leaving-some : 2 + d < end
       leaving-some = omega (arith, goes, c .low)
 
-      pub leaving-short : (before : List ℕ) {s : Crossed} → length before < length code → Bare refusedShort s → Crosses code i before s before
-      leaving-short before l f = cross-short code before i (r .passes) leaving-facet open-there l f
+      pub leaving-short : (before : List ℕ) → length before < length code → Lands code i before refusedShort before
+      leaving-short before l = lands-short code before i (r .passes) leaving-facet open-there l
 
       -- the buffer: the code copied, the carry, then the sign changed
       module _ (before : List ℕ) where
@@ -266,7 +264,7 @@ module _ {code : List ℕ} {d at e i : ℕ} (r : Leaving code d at e i) where
 
         pub leaving-done : {buf after : List ℕ} {v x : ℕ} → length code ≤ length before → v ≡ negated (getD code (2 + at) 0)
             → buf ≡ take (length code) code ++ drop (length code) before → x ≡ axis e → Flips (end - 1) (length code) x buf after
-            → Crosses code i before (record { refusal = done; place = i; length = length code }) (set after (2 + at) v)
+            → Lands code i before (landed + i) (set after (2 + at) v)
         unfolding rest
-        leaving-done {buf} {after} {v} l q b h f = cross-done code before i (r .passes) leaving-facet open-there l refl (sym (r .new)) refl
+        leaving-done {buf} {after} {v} l q b h f = lands-done code before i (r .passes) leaving-facet open-there l (sym (r .new))
             (ap (λ (x : List ℕ). set x (2 + at) v) (carried-there b (subst (λ (a : ℕ). Flips (end - 1) (length code) a buf after) h f)) ∙ turned q ∙ table)

@@ -5,5 +5,6 @@ pub mod Outcome
 pub mod Determined
 -- What the proofs of the functions use.
 pub mod Answers
+pub mod Landing
 pub mod Leaving
 pub mod Staying

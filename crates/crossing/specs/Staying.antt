@@ -27,9 +27,8 @@ use Rattle.fours.specs.declared.Four.{Four}
 use Rattle.fours.specs.Fours.{four, noEntries}
 use Rattle.fours.specs.Laws.{pasted}
 use Rattle.moves.specs.Rearranging.{ownNext, Rearranges, within, within-is, Movable}
-use Rattle.crossing.specs.declared.Crossed.{Crossed}
-use Rattle.crossing.specs.Outcome.{Crosses}
-use Rattle.crossing.specs.Answers.{Bare, cross-short, cross-done, entries-append, code-pasted}
+use Rattle.crossing.specs.Answers.{entries-append, code-pasted}
+use Rattle.crossing.specs.Landing.{landed, Lands, lands-short, lands-done}
 
 pub record Staying (code : List ℕ) (d k i : ℕ) : Type 0 where
   pub passes : codeRefusal code ≡ done
@@ -181,8 +180,8 @@ module _ {code : List ℕ} {d k i : ℕ} (r : Staying code d k i) where
         across = rw (entries, row, ← r .split, within-orthants (dimensionOf code) k i (nextOwn k (partsOf code)) (partsOf code)) refl
 
         pub staying-done : (out : List ℕ) {buf after : List ℕ} → length code ≤ length out → buf ≡ take (length code) code ++ drop (length code) out → after ≡ paste buf 2 rs d
-            → Crosses code i out (record { refusal = done; place = place; length = length code }) after
-        staying-done out h b a = cross-done code out i (r .passes) staying-facet staying-free h refl there refl
+            → Lands code i out (landed + place) after
+        staying-done out h b a = lands-done code out i (r .passes) staying-facet staying-free h there
             (a ∙ ap (λ (l : List ℕ). paste l 2 rs d) (b ∙ whole-front code out) ∙ code-pasted code (r .passes) (r .axes) rs (drop (length code) out)
             ∙ ap (λ (l : List ℕ). l ++ drop (length code) out) across)
 
@@ -198,5 +197,5 @@ module _ {code : List ℕ} {d k i : ℕ} (r : Staying code d k i) where
     first = λ z. r .first (sym f ∙ z);
   }
 
-  pub staying-short : (out : List ℕ) {s : Crossed} → length out < length code → Bare refusedShort s → Crosses code i out s out
-  staying-short out h f = cross-short code out i (r .passes) staying-facet staying-free h f
+  pub staying-short : (out : List ℕ) → length out < length code → Lands code i out refusedShort out
+  staying-short out h = lands-short code out i (r .passes) staying-facet staying-free h

@@ -5,6 +5,7 @@
 ghost use mathlib.Core.Path.{_≡_};
 ghost use Rattle.bisection.specs.Refusals.{done, codeRefusal};
 ghost use Rattle.crossing.specs.Outcome.{Crosses};
+ghost use Rattle.crossing.specs.Landing.{AnswerIs, Lands};
 ghost use Rattle.crossing.specs.Leaving.{Leaving};
 ghost use Rattle.crossing.specs.Staying.{Staying};
 use bisection::DONE;
@@ -35,14 +36,32 @@ fn refused(refusal: u8) -> Crossed
     }
 }
 
+// What a crossing gives as one number: a refusal, or so much more than the place of the new vertex. A number comes back in a register,
+// an answer of three through memory.
+const LANDED: u8 = 16;
+
+// The answer that a crossing's number gives.
+fn answer(number: u8, length: usize) -> Crossed
+    ensures { λ r. ⌜ AnswerIs number length r ⌝ }
+{
+    if number < LANDED {
+        return refused(number);
+    }
+    Crossed {
+        refusal: DONE,
+        place: number - LANDED,
+        length,
+    }
+}
+
 // The crossing stays in the box.
-fn cross_inside(code: &[u8], d: usize, k: usize, facet: u8, out: &mut [u8]) -> Crossed
+fn cross_inside(code: &[u8], d: usize, k: usize, facet: u8, out: &mut [u8]) -> u8
     requires { ⌜ Staying (now code) d k facet ⌝ }
-    ensures { λ r. ⌜ Crosses (now (code .entry)) facet (now (out .entry)) r (now (out .exit)) ⌝ }
+    ensures { λ r. ⌜ Lands (now (code .entry)) facet (now (out .entry)) r (now (out .exit)) ⌝ }
 {
     let length = code.len();
     if out.len() < length {
-        return refused(REFUSED_SHORT);
+        return REFUSED_SHORT;
     }
     let i = common::size(facet);
     let moved = moves::rearranged(
@@ -54,47 +73,40 @@ fn cross_inside(code: &[u8], d: usize, k: usize, facet: u8, out: &mut [u8]) -> C
     );
     buffers::copy_front(code, length, out);
     fours::write(moved.entries, d, out, 2);
-    Crossed {
-        refusal: DONE,
-        place: moved.place,
-        length,
-    }
+    LANDED + moved.place
 }
 
 // The crossing leaves the box, against the entry e; the one at place `at` changes its sign, and the new vertex stands
 // where the old one did.
-fn cross_outside(code: &[u8], d: usize, at: usize, e: u8, facet: u8, out: &mut [u8]) -> Crossed
+fn cross_outside(code: &[u8], d: usize, at: usize, e: u8, facet: u8, out: &mut [u8]) -> u8
     requires { ⌜ Leaving (now code) d at e facet ⌝ }
-    ensures { λ r. ⌜ Crosses (now (code .entry)) facet (now (out .entry)) r (now (out .exit)) ⌝ }
+    ensures { λ r. ⌜ Lands (now (code .entry)) facet (now (out .entry)) r (now (out .exit)) ⌝ }
 {
     let end = carries::carry_end(code, 2 + d, e);
     if end == 2 + d {
-        return refused(REFUSED_FACE);
+        return REFUSED_FACE;
     }
     let length = code.len();
     if out.len() < length {
-        return refused(REFUSED_SHORT);
+        return REFUSED_SHORT;
     }
     let turned = entries::negate(code[2 + at]);
     buffers::copy_front(code, length, out);
     carries::carry(out, end - 1, length, entries::axis_of(e));
     out[2 + at] = turned;
-    Crossed {
-        refusal: DONE,
-        place: facet,
-        length,
-    }
+    LANDED + facet
 }
 
-// The cell across a facet of a code that has been checked.
-pub fn cross_checked(code: &[u8], facet: u8, out: &mut [u8]) -> Crossed
+// Crosses a facet of a code that has been checked, and gives the crossing's number.
+fn landing(code: &[u8], facet: u8, out: &mut [u8]) -> u8
     requires { ⌜ codeRefusal (now code) ≡ done ⌝ }
-    ensures { λ r. ⌜ Crosses (now (code .entry)) facet (now (out .entry)) r (now (out .exit)) ⌝ }
+    ensures { λ r. ⌜ Lands (now (code .entry)) facet (now (out .entry)) r (now (out .exit)) ⌝ }
 {
+    let code = &*code; // lent on anew, it comes in registers
     let d = check::axes_of(code);
     let i = common::size(facet);
     if d < i {
-        return refused(REFUSED_STEP);
+        return REFUSED_STEP;
     }
     let k = check::split_of(code, d);
     // across facet d, and across facet 0 at the start of a level
@@ -107,6 +119,14 @@ pub fn cross_checked(code: &[u8], facet: u8, out: &mut [u8]) -> Crossed
     cross_inside(code, d, k, facet, out)
 }
 
+// The cell across a facet of a code that has been checked.
+pub fn cross_checked(code: &[u8], facet: u8, out: &mut [u8]) -> Crossed
+    requires { ⌜ codeRefusal (now code) ≡ done ⌝ }
+    ensures { λ r. ⌜ Crosses (now (code .entry)) facet (now (out .entry)) r (now (out .exit)) ⌝ }
+{
+    answer(landing(code, facet, out), code.len())
+}
+
 // Across a facet lies a cell that has all its vertices, or a face of the cube.
 pub fn cross(code: &[u8], facet: u8, out: &mut [u8]) -> Crossed
     ensures { λ r. ⌜ Crosses (now (code .entry)) facet (now (out .entry)) r (now (out .exit)) ⌝ }
@@ -115,5 +135,5 @@ pub fn cross(code: &[u8], facet: u8, out: &mut [u8]) -> Crossed
     if refusal != DONE {
         return refused(refusal);
     }
-    cross_checked(code, facet, out)
+    answer(landing(code, facet, out), code.len())
 }

@@ -4,6 +4,7 @@ use mathlib.Core.Bool.{Bool, true, false, cond}
 use mathlib.Core.List.{List, [], _∷_}
 use Prim.Native.Nat.{ℕ, zero, suc, _+_, _-_, _*_, _/_, _%_, _^_, _≤_, _<_}
 use native.Mathlib.Omega.{arith}
+use native.Mathlib.Nat.{mod-lt}
 use native.Mathlib.Decide.{decLt, ℕ-discrete}
 use lib.Dec.{eqb}
 use lib.ListN.{getD}
@@ -27,6 +28,7 @@ ownNext k own es = sameSign (minus (getD es k 0)) (high own (axis (getD es k 0))
 pub record Rearranges (k : ℕ) (m : Move) (es : List ℕ) (place : ℕ) (r : List ℕ) : Type 0 where
   pub entries : (d : ℕ) → r ≡ entriesBy d k m es
   pub new : (d : ℕ) → place ≡ newAt d k m
+  pub few : place < 4
 
 -- the rows that stay in the box
 unfoldable pub within : ℕ → ℕ → Bool → Move
@@ -183,7 +185,7 @@ module _ {d k i : ℕ} (own : ℕ) {e : Four} (m : Movable d k i e) {n w x : ℕ
   pub rearranged-is : {a by p q r s : ℕ} → (a ≡ 8 * k + 2 * i + cond b 0 1) × (8 ≤ a) × (a < 40) → by ≡ rowAt a → p ≡ takenBy w by → q ≡ takenBy w (by / 2 ^ 8)
       → r ≡ takenBy w (by / 2 ^ 16) → s ≡ takenBy w (by / 2 ^ 24) → Rearranges k (within k i (ownNext k own (four e))) (four e) (by / 2 ^ 5 % 4) (four (fourOf p q r s))
   rearranged-is {a} {by} {p} {q} {r} {s} y v t1 t2 t3 t4 = subst (λ (v : Move). Rearranges k v (four e) (by / 2 ^ 5 % 4) (four (fourOf p q r s))) own-as
-      (record { entries = λ c. rw (t1, t2, t3, t4, h .bytes, row) (taken .0 w c); new = λ c. rw row (taken .1 c) })
+      (record { entries = λ c. rw (t1, t2, t3, t4, h .bytes, row) (taken .0 w c); new = λ c. rw row (taken .1 c); few = mod-lt (by / 2 ^ 5) (omega arith) })
     where
       row : by ≡ rowOf k (within k i b)
       row = v ∙ ap rowAt (y .0) ∙ numbered k i b (facet-few m)

@@ -1,50 +1,8 @@
--- `cross_checked` meets its contract: the row of the facet, which leaves the box or stays in it.
-use mathlib.Core.Path.{refl}
-use native.Mathlib.Omega.{arith}
-use Rattle.crossing.specs.Answers.{cross-step}
-use Rattle.crossing.specs.Leaving.{facing-some, facing-whole, facing-few, facing-at, leaving}
-use Rattle.crossing.specs.Staying.{staying}
+-- `cross_checked` meets its contract: what the crossing's number says.
+use Rattle.crossing.specs.Landing.{lands}
 use borrow.Author.Needs.{needs}
 use Rattle.crossing.proofs.cross_checked.Statement.{statement}
 use Rattle.crossing.proofs.cross_checked.Tie as tie
 
-add-entry : tie.Need-add-entry
-add-entry c =
-    let start : tie.Start = search in let axes : tie.After-axes-of = search in let size : tie.After-size = search in
-    let split : tie.After-split-of = search in let row : tie.After-either = search in let leaves : tie.Then2 = search in let place : tie.After-either2 = search in
-    omega (arith, facing-few _ refl (start .pre) (axes .axes-of .ensures) (size .size .ensures) (split .split-of .ensures) (row .either .ensures) (leaves .if2 .taken) (place .either2 .ensures))
-
-shared-slice-read-entry : tie.Need-shared-slice-read-entry
-shared-slice-read-entry c =
-    let start : tie.Start = search in let axes : tie.After-axes-of = search in let size : tie.After-size = search in
-    let split : tie.After-split-of = search in let row : tie.After-either = search in let leaves : tie.Then2 = search in let place : tie.After-either2 = search in
-    facing-at _ refl (start .pre) (axes .axes-of .ensures) (size .size .ensures) (split .split-of .ensures) (row .either .ensures) (leaves .if2 .taken) (place .either2 .ensures)
-
-cross-outside-requires : tie.Need-cross-outside-requires
-cross-outside-requires c κs =
-    let start : tie.Start = search in let axes : tie.After-axes-of = search in let size : tie.After-size = search in
-    let split : tie.After-split-of = search in let row : tie.After-either = search in let leaves : tie.Then2 = search in let place : tie.After-either2 = search in
-    let negated : tie.After-negate = search in leaving _ refl (start .pre) (axes .axes-of .ensures) (size .size .ensures) (split .split-of .ensures) (row .either .ensures) (leaves .if2 .taken) (place .either2 .ensures) refl (negated .negate .ensures) (c .before .pick .ensures)
-
 pub cross-checked-spec : {M : Type 1} → statement M
-cross-checked-spec =
-    tie.close
-    (tie.spec
-    (λ c κs. search needs)
-    (λ c κs. search needs)
-    (λ c κs. search needs)
-    (λ c. search (needs, cross-step))
-    (λ c κs. search (needs, facing-some, facing-whole))
-    (λ c κs. search needs)
-    (λ c. search (needs, facing-some))
-    (λ c κs. search needs)
-    add-entry
-    shared-slice-read-entry
-    (λ c κs. search needs)
-    (λ c κs. search needs)
-    cross-outside-requires
-    (λ c. search needs)
-    (λ c. search needs)
-    (λ c κs. search (needs, staying))
-    (λ c. search needs)
-    (λ c. search needs))
+cross-checked-spec = tie.close (tie.spec (λ c κs. search needs) (λ c κs. search needs) (λ c. search needs) (λ c. search (needs, lands)))

@@ -49,9 +49,7 @@ cross-outside-spec =
     (λ c. let start : tie.Start = search in omega (arith, leaving-few (start .pre)))
     (λ c κs. search (needs, leaving-long, leaving-room))
     (λ c. let start : tie.Start = search in omega (arith, leaving-few (start .pre)))
-    (λ c κs. search needs)
     (λ c. search (needs, leaving-face))
-    (λ c κs. search needs)
     (λ c. search (needs, leaving-short))
     (λ c. let start : tie.Start = search in omega (arith, leaving-few (start .pre), start .pre .place))
     (λ c. search (needs, leaving-at))
@@ -62,5 +60,6 @@ cross-outside-spec =
     carry-requires
     (λ c. let start : tie.Start = search in omega (arith, leaving-few (start .pre), start .pre .place))
     slice-write-out
+    (λ c. let start : tie.Start = search in omega (arith, leaving-few (start .pre), start .pre .facet))
     same-length
     (λ c. search (needs, leaving-done)))
