@@ -36,8 +36,8 @@ fn refused(refusal: u8) -> Crossed
     }
 }
 
-// What a crossing gives as one number: a refusal, or so much more than the place of the new vertex. A number comes back in a register,
-// an answer of three through memory.
+// A crossing gives one number: a refusal, or the place of the new vertex and so much more. A number comes back in a register, an answer
+// of three through memory.
 const LANDED: u8 = 16;
 
 // The answer that a crossing's number gives.
@@ -97,7 +97,8 @@ fn cross_outside(code: &[u8], d: usize, at: usize, e: u8, facet: u8, out: &mut [
     LANDED + facet
 }
 
-// Crosses a facet of a code that has been checked, and gives the crossing's number.
+// Crosses a facet of a code that has been checked, and gives the crossing's number. Both functions below call it: for one caller alone
+// the compiler would put it in line, and that caller's answer would go through memory.
 fn landing(code: &[u8], facet: u8, out: &mut [u8]) -> u8
     requires { ⌜ codeRefusal (now code) ≡ done ⌝ }
     ensures { λ r. ⌜ Lands (now (code .entry)) facet (now (out .entry)) r (now (out .exit)) ⌝ }
