@@ -5,6 +5,13 @@ use borrow.Author.Needs.{needs}
 use Rattle.crossing.proofs.cross_inside.Statement.{statement}
 use Rattle.crossing.proofs.cross_inside.Tie as tie
 
+-- a place fits, be it the new vertex's or the old one's
+add-result : tie.Need-add-result
+add-result c =
+    let moved : tie.After-rearranged = search in
+    let start : tie.Start = search in
+    omega (arith, moved .rearranged .ensures .few, staying-four (start .pre), start .pre .inside)
+
 pub cross-inside-spec : {M : Type 1} → statement M
 cross-inside-spec =
     tie.close
@@ -16,6 +23,6 @@ cross-inside-spec =
     (λ c κs. search (needs, staying-movable))
     (λ c κs. search (needs, staying-long, staying-most))
     (λ c κs. search (needs, staying-two, staying-four, staying-put))
-    (λ c. let moved : tie.After-rearranged = search in omega (arith, moved .rearranged .ensures .few))
+    add-result
     (λ c. search needs)
     (λ c. search (needs, staying-done)))
