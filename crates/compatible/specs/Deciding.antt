@@ -7,14 +7,14 @@ use mathlib.Core.Logic.{_⊎_, inl, inr}
 use Prim.Native.Nat.{ℕ, zero, suc, _+_, _-_, _*_, _^_, _≤_, _<_}
 use native.Mathlib.Omega.{arith}
 use native.Mathlib.Decide.{decLt}
-use lib.ListN.{length, getD, take, drop, length-append}
-use lib.Seq.{take-at, drop-at}
+use lib.ListN.{length, getD, drop, length-append}
+use lib.Seq.{drop-at}
 use lib.Pow.{pow-pos}
 use Rattle.dimension.specs.Sizes.{isDimension, greatestDepth}
 use Rattle.bisection.specs.Roots.{roots}
 use Rattle.positions.specs.Positions.{startOf, sizeOf}
 use Rattle.positions.specs.RootNumbers.{numberIn}
-use Rattle.sheets.specs.Forests.{TreeCell, treeCell, childOf, Leaves}
+use Rattle.sheets.specs.Forests.{TreeCell, childOf, Leaves}
 use Rattle.sheets.specs.Sheets.{leafIn}
 use Rattle.sheets.specs.Theorems.Tiles.{leaves-tile}
 use Rattle.sheets.specs.Theorems.Listing.{GoodCell, leaves-cells}

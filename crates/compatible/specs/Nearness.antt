@@ -3,11 +3,10 @@ use mathlib.Core.Path.{_≡_, refl, sym, ap, _∙_, subst}
 use mathlib.Core.Bool.{Bool, true, false}
 use mathlib.Core.List.{List, [], _∷_, _++_}
 use mathlib.Core.Logic.{_⊎_, inl, inr}
-use Prim.Native.Nat.{ℕ, zero, suc, _+_, _-_, _*_, _/_, _^_, _≤_, _<_}
+use Prim.Native.Nat.{ℕ, zero, suc, _+_, _-_, _/_, _^_, _≤_, _<_}
 use native.Mathlib.Omega.{arith}
 use native.Mathlib.Nat.{pow-succ'}
 use lib.ListN.{length, getD, length-append}
-use lib.Pow.{pow-pos}
 use lib.Dec.{T, eqb}
 use borrow.Author.Tests.{eqb-true, eqb-false}
 use Rattle.dimension.specs.Sizes.{isDimension, greatestDepth}
@@ -31,7 +30,7 @@ use Rattle.finding.specs.Sizes.{start-joined}
 use Rattle.finding.specs.Records.{good-axes, depth-sixty, good-stretch}
 use Rattle.finding.specs.Walk.{leaf-good}
 use Rattle.finding.specs.Theorems.OneOfThree.{among-one}
-use Rattle.finding.specs.Finding.{LiesIn, StrictlyIn, Among, is-leaf, inside, split, StandsAt, Indexed, FindReady, FoundIs}
+use Rattle.finding.specs.Finding.{Among, is-leaf, inside, split, StandsAt, Indexed, FindReady, FoundIs}
 use Rattle.compatible.specs.Compatible.{IsLeaf, NearLeaf, itself, child}
 use Rattle.compatible.specs.Deciding.{start-small, no-rest, parent-near, near-parent, child-near, near-child}
 

@@ -2,7 +2,7 @@
 use mathlib.Core.Path.{_≡_, refl, sym, ap, _∙_, subst}
 use mathlib.Core.Bool.{Bool, true, false, not}
 use mathlib.Core.List.{List, [], _∷_}
-use Prim.Native.Nat.{ℕ, zero, suc, _+_, _-_, _*_, _^_, _≤_, _<_}
+use Prim.Native.Nat.{ℕ, suc, _+_, _-_, _*_, _^_, _≤_, _<_}
 use native.Mathlib.Omega.{arith}
 use native.Mathlib.Decide.{ℕ-discrete}
 use lib.Dec.{T}
@@ -10,11 +10,10 @@ use borrow.Author.Tests.{not-true, not-false}
 use lib.ListN.{length, take, drop}
 use Rattle.dimension.specs.Sizes.{greatestDepth, codeLength}
 use Rattle.dimension.specs.Laws.{dimension}
-use Rattle.bisection.specs.Codes.{codeOf}
 use Rattle.codes.specs.Fronts.{frontDepth}
 use Rattle.sheets.specs.Forests.{TreeCell}
 use Rattle.sheets.specs.Sheets.{GoodSheet, leafIn}
-use Rattle.sheets.specs.Theorems.Good.{same-cells, same-count}
+use Rattle.sheets.specs.Theorems.Good.{same-cells}
 use Rattle.sheets.specs.Theorems.Listing.{GoodCell}
 use Rattle.finding.specs.declared.Spread.{Spread}
 use Rattle.finding.specs.Finding.{Indexed}
@@ -22,9 +21,9 @@ use Rattle.finding.specs.Indexes.{AboutReady}
 use Rattle.finding.specs.Records.{onward, AtRecord, record-known, record-depth, record-next}
 use Rattle.finding.specs.Walk.{From, from-start, Here, here, leaf-good}
 use Rattle.compatible.specs.declared.Judged.{Judged}
-use Rattle.compatible.specs.Compatible.{Meets, Compatible}
+use Rattle.compatible.specs.Compatible.{Compatible}
 use Rattle.compatible.specs.Crossing.{codeFor}
-use Rattle.compatible.specs.FacetLaws.{Walls, FacetReady, FacetIs}
+use Rattle.compatible.specs.FacetLaws.{FacetReady, FacetIs}
 
 -- ---- all facets of a leaf
 

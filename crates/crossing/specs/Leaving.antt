@@ -1,14 +1,14 @@
 -- A crossing that leaves the box: facet d, and facet 0 at the start of a level. One entry changes its sign, the box
 -- moves against an entry, and the new vertex stands where the old one did.
 use mathlib.Core.Path.{_≡_, refl, sym, ap, _∙_, subst}
-use mathlib.Core.Bool.{Bool, true, false, not, cond}
+use mathlib.Core.Bool.{Bool, false, not, cond}
 use mathlib.Core.Logic.{_≢_}
 use mathlib.Core.List.{List, [], _∷_, _++_, append-assoc}
 use Prim.Native.Nat.{ℕ, suc, _+_, _-_, _≤_, _<_}
 use native.Mathlib.Omega.{arith}
-use native.Mathlib.Decide.{decLt, ℕ-discrete}
+use native.Mathlib.Decide.{ℕ-discrete}
 use lib.Dec.{T, eqb}
-use lib.ListN.{length, getD, take, drop, set, length-append}
+use lib.ListN.{length, getD, take, drop, set}
 use lib.Seq.{set-append-left, take-at}
 use borrow.Author.Tests.{eq-eqb, ne-eqb}
 use Rattle.dimension.specs.Sizes.{codeLength, longestOfAll, splitPlace}
@@ -16,7 +16,6 @@ use Rattle.bisection.specs.Codes.{axis, minus, negated, high, Name, bytes, dime
 use Rattle.bisection.specs.Refusals.{done, refusedFace, refusedShort, codeRefusal}
 use Rattle.bisection.specs.Theorems.Entries.{axis-negated, minus-negated}
 use Rattle.bisection.specs.Theorems.Table.{nearer, farther, move, moveOf, newAt, newPlace, nextOwn, negatedAt, entriesBy, orthantsBy, blockedBy, blocked, acrossName, runsOut, carried}
-use Rattle.bisection.specs.Theorems.Crossing.Rearranged.{negatedAt-length}
 use Rattle.bisection.specs.Theorems.Neighbour.{isBlocked, tableCode, tablePlace}
 use Rattle.entries.specs.Walks.{entry-at}
 use Rattle.entries.specs.Passed.{code-few, Checked, checked}

@@ -19,7 +19,7 @@ use Rattle.bisection.specs.Theorems.Entries.{Signed, Stands, stands}
 use Rattle.bisection.specs.Theorems.Orthants.{bits-same}
 use Rattle.bisection.specs.Theorems.Passing.{same-true}
 use Rattle.bisection.specs.Theorems.Checked.{each-at, permutes-signed, signed-permutes}
-use Rattle.entries.specs.Masks.{markOf, marked-high, marked-byte, high-none, shifted-wide}
+use Rattle.entries.specs.Masks.{markOf, marked-high, marked-byte, high-none, shifted-bit}
 use Rattle.entries.specs.Walks.{permutes-take}
 use Rattle.entries.specs.Words.{NoneBehind}
 
@@ -150,4 +150,4 @@ module _ {d i seen : ℕ} {es : List ℕ} (long : length es ≡ 4) (few : d ≤ 
       go (no h) = behind .none i (omega arith) ∙ sym (List·getD-eq-default (take d es) 0 {n = i} (omega (arith, size)))
 
   pub permuted-all : 4 ≤ i → eqb seen (1 * 2 ^ d % 2 ^ 32 - 1) ≡ permutes d es
-  permuted-all h = ap (λ (o : ℕ). eqb seen (o - 1)) (shifted-wide d (omega arith)) ∙ marked-all m size (omega arith) few ∙ permutes-take d es
+  permuted-all h = ap (λ (o : ℕ). eqb seen (o - 1)) (shifted-bit 32 d (omega arith)) ∙ marked-all m size (omega arith) few ∙ permutes-take d es

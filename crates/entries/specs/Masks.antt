@@ -17,12 +17,9 @@ pub high-masked : (o a : ℕ) → eqb (bitAnd (o / 2 ^ (a - 1)) 1) 1 ≡ high o 
 unfolding high
 high-masked o a = ap (λ (u : ℕ). eqb u 1) (and-mask (o / 2 ^ (a - 1)) 1)
 
--- the bit that a shift makes, as a byte holds it
-pub shifted-bit : (n : ℕ) → n < 8 → 1 * 2 ^ n % 2 ^ 8 ≡ 2 ^ n
-shifted-bit n h = let l : 2 ^ n < 2 ^ 8 = pow-lt {i = n} {j = 8} h in rw (one-mul (2 ^ n)) (mod-eq-of-lt l)
-
-pub shifted-wide : (n : ℕ) → n ≤ 8 → 1 * 2 ^ n % 2 ^ 32 ≡ 2 ^ n
-shifted-wide n h = let l : 2 ^ n < 2 ^ 32 = pow-lt {i = n} {j = 32} (omega arith) in rw (one-mul (2 ^ n)) (mod-eq-of-lt l)
+-- the bit that a shift makes, in a number of b bits
+pub shifted-bit : (b n : ℕ) → n < b → 1 * 2 ^ n % 2 ^ b ≡ 2 ^ n
+shifted-bit b n h = let l : 2 ^ n < 2 ^ b = pow-lt {i = n} {j = b} h in rw (one-mul (2 ^ n)) (mod-eq-of-lt l)
 
 -- bits of a join
 bit-or : (a b j : ℕ) → bitOr a b / 2 ^ j % 2 ≡ max (a / 2 ^ j % 2) (b / 2 ^ j % 2)
@@ -90,7 +87,7 @@ mark-in a h l = rw (le-leb 1 a h, le-leb a 8 l) refl
 
 -- as the code makes it: the bit at the axis, one place down
 pub mark-as : {a x : ℕ} → a ≡ x → a ≤ 8 → 1 * 2 ^ a % 2 ^ 32 / 2 ≡ markOf x
-mark-as {a} e l = ap (λ (y : ℕ). y / 2) (shifted-wide a l) ∙ go a l ∙ ap markOf e
+mark-as {a} e l = ap (λ (y : ℕ). y / 2) (shifted-bit 32 a (omega arith)) ∙ go a l ∙ ap markOf e
   where
     go : (a : ℕ) → a ≤ 8 → 2 ^ a / 2 ≡ markOf a
     go zero l = sym (mark-none 0 (omega arith))

@@ -2,7 +2,7 @@
 use mathlib.Core.Path.{_≡_, refl, sym, ap, _∙_, subst}
 use mathlib.Core.Bool.{Bool, true, false, cond, not, _&&_}
 use mathlib.Core.List.{List}
-use Prim.Native.Nat.{ℕ, zero, suc, _+_, _-_, _*_, _/_, _%_, _^_, _≤_, _<_}
+use Prim.Native.Nat.{ℕ, zero, suc, _+_, _-_, _/_, _%_, _^_, _≤_, _<_}
 use native.Mathlib.Omega.{arith}
 use native.Mathlib.Numerals.{add-one}
 use native.Mathlib.Nat.{mod-lt, zero-add}
@@ -14,7 +14,7 @@ use lib.Seq.{getD-drop, getD-take}
 use borrow.Author.Tests.{not-true, not-false, lt-ltb, le-ltb, lt-leb, le-leb}
 use Rattle.bisection.specs.Codes.{axis, minus, high}
 use Rattle.bisection.specs.Refusals.{each, fresh, permutes, ownMinus, sameSign, signsOwn, isRoot, isPath}
-use Rattle.bisection.specs.Theorems.Checked.{and-both, each-fails}
+use Rattle.bisection.specs.Theorems.Checked.{and-false, and-both, each-fails}
 use Rattle.entries.specs.Words.{fourFrom, four-at}
 
 -- tests in a row: equal tests, one more, one that fails
@@ -30,10 +30,6 @@ each-more n f e h = rw (add-one n) (and-both (f n) (each n f) h e)
 -- the permutation: what has been seen before place i
 abbrev pub entryFits : ℕ → List ℕ → ℕ → Bool
 entryFits d es i = leb 1 (axis (getD es i 0)) && leb (axis (getD es i 0)) d && fresh es (axis (getD es i 0)) i
-
-and-false : (s : Bool) → (s && false) ≡ false
-and-false true = refl
-and-false false = refl
 
 -- only the first d entries count
 pub permutes-same : (d : ℕ) (l m : List ℕ) → ((i : ℕ) → i < d → getD l i 0 ≡ getD m i 0) → permutes d l ≡ permutes d m

@@ -2,7 +2,7 @@
 use mathlib.Core.Path.{_≡_, refl, sym, ap, _∙_}
 use mathlib.Core.Logic.{_≢_}
 use mathlib.Core.List.{List, [], _∷_}
-use Prim.Native.Nat.{ℕ, zero, suc, _+_, _*_, _/_, _%_, _^_, _≤_, _<_}
+use Prim.Native.Nat.{ℕ, zero, suc, _+_, _-_, _*_, _/_, _%_, _^_, _≤_, _<_}
 use native.Mathlib.Omega.{arith}
 use native.Mathlib.Decide.{decLt}
 use lib.Bits.{bitAnd, bitOr, bitXor, and-shr, and-mod, or-shr, or-mod, xor-shr, xor-mod}
@@ -38,6 +38,17 @@ pub word-sum : (a b c e : ℕ) {p q r s : ℕ} → p ≡ a → q ≡ b → r ≡
 unfolding wordOf
 word-sum a b c e f g h k = omega arith
 
+-- the word of four bytes
+pub record WordOf (a b c e w : ℕ) : Type 0 where
+  pub is : w ≡ wordOf (a ∷ b ∷ c ∷ e ∷ [])
+  pub bytes : bytesOf w ≡ a ∷ b ∷ c ∷ e ∷ []
+
+pub word-of : {a b c e p q r s : ℕ} → (p ≡ a) × (p < 256) → (q ≡ b) × (q < 256) → (r ≡ c) × (r < 256) → (s ≡ e) × (s < 256) → WordOf a b c e (p + 256 * q + 65536 * r + 16777216 * s)
+word-of {a} {b} {c} {e} {p} {q} {r} {s} f g h k = record {
+  is = word-sum a b c e (f .0) (g .0) (h .0) (k .0);
+  bytes = bytes-of p q r s (f .1) (g .1) (h .1) (k .1) ∙ bytes-same (f .0) (g .0) (h .0) (k .0);
+}
+
 -- zeros stand behind the first d
 pub record NoneBehind (d : ℕ) (es : List ℕ) : Type 0 where
   pub none : (m : ℕ) → d ≤ m → getD es m 0 ≡ 0
@@ -54,12 +65,12 @@ pub record WordAt (l : List ℕ) (at w : ℕ) : Type 0 where
   pub is : w ≡ wordOf (fourFrom l at)
   pub bytes : bytesOf w ≡ fourFrom l at
 
-pub word-at : (l : List ℕ) (at : ℕ) {p q r s : ℕ} → p ≡ getD l at 0 → q ≡ getD l (at + 1) 0 → r ≡ getD l (at + 2) 0 → s ≡ getD l (at + 3) 0
-    → p < 256 → q < 256 → r < 256 → s < 256 → WordAt l at (p + 256 * q + 65536 * r + 16777216 * s)
-word-at l at {p} {q} {r} {s} e f g h t u v w = record {
-  is = word-sum (getD l at 0) (getD l (at + 1) 0) (getD l (at + 2) 0) (getD l (at + 3) 0) e f g h;
-  bytes = bytes-of p q r s t u v w ∙ bytes-same e f g h;
-}
+pub word-at : {l : List ℕ} {at p q r s w : ℕ} → p ≡ getD l at 0 → q ≡ getD l (at + 1) 0 → r ≡ getD l (at + 2) 0 → s ≡ getD l (at + 3) 0 → WordOf p q r s w → WordAt l at w
+word-at e f g h t = record { is = t .is ∙ ap wordOf (bytes-same e f g h); bytes = t .bytes ∙ bytes-same e f g h }
+
+-- its bytes are those of the list
+pub word-byte : {l : List ℕ} {at w : ℕ} → WordAt l at w → (j : ℕ) → at ≤ j → j < at + 4 → getD (bytesOf w) (j - at) 0 ≡ getD l j 0
+word-byte {l} {at} t j h u = ap (λ (b : List ℕ). getD b (j - at) 0) (t .bytes) ∙ four-at l at (j - at) (omega arith) ∙ ap (λ (x : ℕ). getD l x 0) (omega arith)
 
 pub none-at : (l : List ℕ) {n : ℕ} → length l ≤ n → 0 ≡ getD l n 0
 none-at l h = sym (List·getD-eq-default l 0 h)

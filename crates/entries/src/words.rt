@@ -2,7 +2,7 @@
 ghost use mathlib.Core.Path.{_≡_};
 ghost use Prim.Native.Nat.{_+_, _/_, _%_, _^_, _≤_, _<_};
 ghost use lib.ListN.{length, getD};
-ghost use Rattle.entries.specs.Words.{bytesOf, WordAt, Puts};
+ghost use Rattle.entries.specs.Words.{bytesOf, WordOf, WordAt, Puts};
 
 pub fn wide(x: u8) -> u32
     ensures { λ r. ⌜ (r ≡ x) × (r < 256) ⌝ }
@@ -26,15 +26,19 @@ pub fn byte_at(w: u32, n: usize) -> u8
     byte(w, 8 * (n as u32))
 }
 
-// The four bytes from a place on: one read.
+// The word of four bytes.
+pub fn word_of(a: u8, b: u8, c: u8, d: u8) -> u32
+    ensures { λ r. ⌜ WordOf a b c d r ⌝ }
+{
+    wide(a) + 256 * wide(b) + 65536 * wide(c) + 16777216 * wide(d)
+}
+
+// That of the four bytes from a place on: one read.
 pub fn word_at(bytes: &[u8], at: usize) -> u32
     requires { ⌜ at + 4 ≤ length (now bytes) ⌝ }
     ensures { λ r. ⌜ WordAt (now (bytes .entry)) at r ⌝ }
 {
-    wide(bytes[at])
-        + 256 * wide(bytes[at + 1])
-        + 65536 * wide(bytes[at + 2])
-        + 16777216 * wide(bytes[at + 3])
+    word_of(bytes[at], bytes[at + 1], bytes[at + 2], bytes[at + 3])
 }
 
 // The byte at a place, 0 where there is none.
@@ -47,14 +51,16 @@ fn byte_or_none(bytes: &[u8], n: usize) -> u8
     bytes[n]
 }
 
-// The first four bytes of as many as there are.
+// That of the first four bytes, of as many as there are.
 pub fn first_word(bytes: &[u8]) -> u32
     ensures { λ r. ⌜ WordAt (now (bytes .entry)) 0 r ⌝ }
 {
-    wide(byte_or_none(bytes, 0))
-        + 256 * wide(byte_or_none(bytes, 1))
-        + 65536 * wide(byte_or_none(bytes, 2))
-        + 16777216 * wide(byte_or_none(bytes, 3))
+    word_of(
+        byte_or_none(bytes, 0),
+        byte_or_none(bytes, 1),
+        byte_or_none(bytes, 2),
+        byte_or_none(bytes, 3),
+    )
 }
 
 // Writes the four bytes of a word from a place on: one store.

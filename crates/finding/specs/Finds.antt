@@ -2,12 +2,12 @@
 use mathlib.Core.Path.{_≡_, refl, sym, ap, _∙_, subst}
 use mathlib.Core.Bool.{Bool, true, false, not}
 use mathlib.Core.List.{List, []}
-use Prim.Native.Nat.{ℕ, zero, suc, _+_, _-_, _*_, _/_, _^_, _≤_, _<_}
+use Prim.Native.Nat.{ℕ, suc, _+_, _-_, _*_, _/_, _^_, _≤_, _<_}
 use native.Mathlib.Omega.{arith}
-use native.Mathlib.Nat.{mul-le-mul-right, zero-mul}
-use lib.ListN.{length, getD}
+use native.Mathlib.Nat.{mul-le-mul-right}
+use lib.ListN.{length}
 use lib.Pow.{pow-pos}
-use borrow.Author.Tests.{not-true, not-false}
+use borrow.Author.Tests.{not-false}
 use Rattle.dimension.specs.Sizes.{isDimension, greatestDepth}
 use Rattle.bisection.specs.Roots.{roots}
 use Rattle.positions.specs.Positions.{sizeOf, PositionIs}

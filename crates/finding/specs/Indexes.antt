@@ -1,8 +1,8 @@
 -- An index of a checked sheet: its entries, the walk from one to the next, and how it is filled.
-use mathlib.Core.Path.{_≡_, refl, sym, ap, _∙_, subst}
+use mathlib.Core.Path.{_≡_, refl, ap, _∙_, subst}
 use mathlib.Core.Bool.{true}
 use mathlib.Core.List.{List}
-use Prim.Native.Nat.{ℕ, zero, suc, _+_, _-_, _*_, _/_, _%_, _^_, _≤_, _<_}
+use Prim.Native.Nat.{ℕ, suc, _+_, _-_, _*_, _/_, _^_, _≤_, _<_}
 use native.Mathlib.Omega.{arith}
 use native.Mathlib.Decide.{decLt}
 use native.Mathlib.Nat.{mul-le-mul-right, le-of-mul-le-mul-right, lt-of-mul-lt-mul-right, mul-comm, div-add-mod', div-le-self, mod-lt, add-mul}
@@ -10,19 +10,19 @@ use lib.ListN.{length, getD, set, length-set}
 use lib.Pow.{pow-pos}
 use lib.Seq.{getD-set-same, getD-set-other}
 use Rattle.dimension.specs.Sizes.{isDimension, greatestDepth, codeLength}
-use Rattle.dimension.specs.Laws.{dimension, depth-small}
+use Rattle.dimension.specs.Laws.{dimension}
 use Rattle.bisection.specs.Roots.{roots}
 use Rattle.codes.specs.Fronts.{frontDepth}
 use Rattle.positions.specs.RootNumbers.{roots-few}
 use Rattle.sheets.specs.Sheets.{GoodSheet}
-use Rattle.sheets.specs.Theorems.Good.{good-tiles, good-some, same-count}
+use Rattle.sheets.specs.Theorems.Good.{good-some, same-count}
 use Rattle.finding.specs.declared.Ahead.{Ahead}
 use Rattle.finding.specs.declared.Entry.{Entry}
 use Rattle.finding.specs.declared.Run.{Run}
 use Rattle.finding.specs.declared.Spread.{Spread}
 use Rattle.finding.specs.Finding.{distance, entryIn, EntryIs, RunIs, Indexed}
-use Rattle.finding.specs.Sizes.{sizesTo, sizes-none, sizes-next, sizes-rise, tiles-total}
-use Rattle.finding.specs.Walk.{From, from-start}
+use Rattle.finding.specs.Sizes.{sizes-none, sizes-next, sizes-rise}
+use Rattle.finding.specs.Walk.{from-start}
 use Rattle.finding.specs.Distances.{aheadBy, JoinReady, JoinedIs}
 use Rattle.finding.specs.Records.{onward, good-axes, good-total, AtRecord, record-stretch, record-size, record-part, record-next}
 

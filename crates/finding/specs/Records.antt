@@ -1,5 +1,5 @@
 -- The record at an offset, as those who read it know it: its depth is read, and gives the size of its leaf's part and the record's length.
-use mathlib.Core.Path.{_≡_, refl, sym, ap, _∙_, subst}
+use mathlib.Core.Path.{_≡_, refl, ap, _∙_, subst}
 use mathlib.Core.Bool.{true}
 use mathlib.Core.List.{List}
 use Prim.Native.Nat.{ℕ, suc, _+_, _-_, _*_, _^_, _≤_, _<_}
@@ -14,7 +14,6 @@ use Rattle.positions.specs.Positions.{sizeOf}
 use Rattle.sheets.specs.Sheets.{GoodSheet, leafIn}
 use Rattle.sheets.specs.StepLaws.{part-all}
 use Rattle.sheets.specs.Theorems.Good.{good-tiles}
-use Rattle.sheets.specs.Theorems.Listing.{GoodCell}
 use Rattle.finding.specs.Sizes.{sizesTo, tiles-total}
 use Rattle.finding.specs.Walk.{From, Here, here, leaf-good}
 

@@ -1,6 +1,6 @@
 -- The laws of entries by value: one for each function, and what a turn does to a signed permutation that they hold.
 use mathlib.Core.Path.{_≡_, refl, sym, ap, _∙_, subst}
-use mathlib.Core.Bool.{Bool, true, false, cond}
+use mathlib.Core.Bool.{true, false, cond}
 use mathlib.Core.List.{List, [], _∷_, _++_, append-assoc}
 use Prim.Native.Nat.{ℕ, zero, suc, _+_, _-_, _≤_, _<_}
 use native.Mathlib.Omega.{arith}
@@ -9,14 +9,12 @@ use lib.Dec.{T, ltb, eqb}
 use lib.ListN.{length, getD, take, drop, set, length-append, length-drop, take-append-drop, List·getD-append}
 use lib.Seq.{paste, take-at, take-set-le, drop-set-add, drop-drop, getD-drop, getD-take, getD-append-add, length-take-le}
 use borrow.Author.Tests.{eq-eqb, ne-eqb, eqb-true, lt-ltb, le-ltb}
-use Rattle.bisection.specs.Codes.{axis, minus, negated, turned, stepped, high}
-use Rattle.bisection.specs.Refusals.{sameSign}
+use Rattle.bisection.specs.Codes.{axis, negated, turned, stepped}
 use Rattle.bisection.specs.Theorems.Entries.{unturned, turned-append, unturned-append, signed-turned, signed-unturned}
-use Rattle.bisection.specs.Theorems.Passing.{unstepped}
 use Rattle.fours.specs.declared.Four.{Four}
 use Rattle.entries.specs.Walks.{placeIn}
 use Rattle.entries.specs.Words.{NoneBehind}
-use Rattle.fours.specs.Fours.{four, noEntries, Holds, SameFour, BackIs}
+use Rattle.fours.specs.Fours.{four, noEntries, Holds, SameFour}
 
 -- the entry that a place has
 entry-all : (e : Four) (n : ℕ) → n < 4 → cond (eqb n 0) (e .first) (cond (eqb n 1) (e .second) (cond (eqb n 2) (e .third) (e .fourth))) ≡ getD (four e) n 0

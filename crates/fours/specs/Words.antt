@@ -1,5 +1,5 @@
 -- Entries as one word, the first in its lowest byte.
-use mathlib.Core.Path.{_≡_, refl, ap, _∙_}
+use mathlib.Core.Path.{_≡_, refl, sym, ap, _∙_}
 use mathlib.Core.Bool.{Bool, true, false, cond}
 use mathlib.Core.List.{List, [], _∷_, _++_}
 use Prim.Native.Nat.{ℕ, zero, suc, _+_, _-_, _*_, _/_, _%_, _^_, _≤_, _<_}
@@ -14,7 +14,7 @@ use Rattle.bisection.specs.Codes.{axis, minus, high, negated}
 use Rattle.bisection.specs.Refusals.{sameSign}
 use Rattle.bisection.specs.Theorems.Entries.{unturned}
 use Rattle.bisection.specs.Theorems.Passing.{unstepped}
-use Rattle.entries.specs.Words.{wordOf, bytesOf, fourFrom, bytes-of}
+use Rattle.entries.specs.Words.{wordOf, bytesOf, fourFrom, bytes-of, WordOf}
 use Rattle.fours.specs.declared.Four.{Four}
 use Rattle.fours.specs.Fours.{four, noEntries, BackIs}
 use Rattle.fours.specs.Laws.{fourOf, entries-are}
@@ -26,10 +26,8 @@ pub record WordIs (e : Four) (w : ℕ) : Type 0 where
 same : {p q r s p' q' r' s' : ℕ} → p ≡ p' → q ≡ q' → r ≡ r' → s ≡ s' → four (fourOf p q r s) ≡ four (fourOf p' q' r' s')
 same f g h k = rw (f, g, h, k) refl
 
-pub word-is : {p q r s : ℕ} (e : Four) → (p ≡ e .first) × (p < 256) → (q ≡ e .second) × (q < 256) → (r ≡ e .third) × (r < 256) → (s ≡ e .fourth) × (s < 256)
-    → WordIs e (p + 256 * q + 65536 * r + 16777216 * s)
-unfolding wordOf
-word-is e f g h k = record { is = omega arith; bytes = same (omega arith) (omega arith) (omega arith) (omega arith) }
+pub word-is : (e : Four) {w : ℕ} → WordOf (e .first) (e .second) (e .third) (e .fourth) w → WordIs e w
+word-is e t = record { is = t .is; bytes = sym (t .bytes) }
 
 -- the entries of a code, from the four bytes that end with the last of them
 module _ (l : List ℕ) (known : (i : ℕ) → Fits w8 (getD l i 0)) where

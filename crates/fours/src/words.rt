@@ -17,10 +17,7 @@ use entries::words;
 pub fn word(e: Four) -> u32
     ensures { λ r. ⌜ WordIs e r ⌝ }
 {
-    words::wide(e.first)
-        + 256 * words::wide(e.second)
-        + 65536 * words::wide(e.third)
-        + 16777216 * words::wide(e.fourth)
+    words::word_of(e.first, e.second, e.third, e.fourth)
 }
 
 // The entries of a word.

@@ -18,7 +18,7 @@ use Rattle.bisection.specs.Theorems.Checked.{each-at}
 use Rattle.bisection.specs.Theorems.Table.{flipped}
 use Rattle.bisection.specs.Theorems.Crossing.Flips.{Parts, parts, digit}
 use Rattle.entries.specs.Masks.{shifted-bit}
-use Rattle.entries.specs.Words.{bytesOf, byte-at, and-byte, xor-byte, four-at, WordAt, Puts}
+use Rattle.entries.specs.Words.{bytesOf, byte-at, and-byte, xor-byte, WordAt, word-byte, Puts}
 use Rattle.moves.specs.Carrying.{passes, Running, Ends, Flips}
 
 -- the lowest bit of each byte
@@ -194,10 +194,7 @@ module _ {up : Bool} {a w r : ℕ} (s : Stopping up a w r) where
 -- the last four orthants of a code, where they stop the carry
 module _ {up : Bool} {a w q p : ℕ} {code : List ℕ} (read : WordAt code p w) (t : Passed up a w q) (four : 4 ≤ length code) (is : p ≡ length code - 4) where
   byte-of : (j : ℕ) → length code ≤ j + 4 → j < length code → getD code j 0 ≡ getD (bytesOf w) (j - p) 0
-  byte-of j l u = ap (λ (x : ℕ). getD code x 0) there ∙ sym (ap (λ (b : List ℕ). getD b (j - p) 0) (read .bytes) ∙ four-at code p (j - p) (omega arith))
-    where
-      there : j ≡ p + (j - p)
-      there = omega arith
+  byte-of j l u = sym (word-byte read j (omega arith) (omega arith))
 
   last-passed : (j : ℕ) → length code ≤ j + q → j < length code → passes up a (getD code j 0) ≡ true
   last-passed j l u = ap (passes up a) (byte-of j (omega (arith, t .few)) u) ∙ t .passed (j - p) (omega (arith, t .few)) (omega arith)
@@ -250,7 +247,7 @@ power-flipped o a = ap (λ (x : ℕ). bitXor x (2 ^ (a - 1))) (p .byte) ∙ ap (
     one = omega arith
 
 pub flipped-as : (o a : ℕ) → 1 ≤ a → a ≤ 8 → bitXor o (1 * 2 ^ (a - 1) % 2 ^ 8) ≡ flipped a o
-flipped-as o a h l = rw (shifted-bit (a - 1) (omega arith)) (power-flipped o a)
+flipped-as o a h l = rw (shifted-bit 8 (a - 1) (omega arith)) (power-flipped o a)
 
 -- the orthants of a word from number `first` on have their bit of axis a flipped
 pub record FlippedFrom (first a w r : ℕ) : Type 0 where
@@ -289,7 +286,7 @@ flips-word {start} {n} {a} {w} {v} {p} {l} {r} near four some room is read f put
     written j h u = ap (λ (x : ℕ). getD r x 0) (there j h) ∙ put .put (j - p) (omega arith)
 
     byte-of : (j : ℕ) → p ≤ j → j < n → getD (bytesOf w) (j - p) 0 ≡ getD l j 0
-    byte-of j h u = ap (λ (b : List ℕ). getD b (j - p) 0) (read .bytes) ∙ four-at l p (j - p) (omega arith) ∙ ap (λ (x : ℕ). getD l x 0) (sym (there j h))
+    byte-of j h u = word-byte read j h (omega arith)
 
     before : (j : ℕ) → j < start → getD r j 0 ≡ getD l j 0
     before j h = go (decLt j p)

@@ -1,6 +1,6 @@
 -- The carry of a move against an entry through the orthants of a code: where it ends, and the orthants that it flips.
 use mathlib.Core.Path.{_≡_, refl, sym, ap, _∙_}
-use mathlib.Core.Bool.{Bool, true, false, not, _&&_, cond}
+use mathlib.Core.Bool.{Bool, true, false, not, cond}
 use mathlib.Core.List.{List, [], _∷_, _++_}
 use Prim.Native.Nat.{ℕ, zero, suc, _+_, _-_, _≤_, _<_}
 use native.Mathlib.Omega.{arith}
@@ -10,7 +10,7 @@ use lib.Seq.{drop-drop, getD-drop, getD-take, getD-set-same, getD-set-other, get
 use borrow.Author.Tests.{not-true, not-false}
 use Rattle.bisection.specs.Codes.{high}
 use Rattle.bisection.specs.Refusals.{sameSign}
-use Rattle.bisection.specs.Theorems.Checked.{and-both}
+use Rattle.bisection.specs.Theorems.Checked.{and-false, and-both}
 use Rattle.bisection.specs.Theorems.Table.{flipped, runsOut, carried}
 use Rattle.bisection.specs.Theorems.Crossing.Boxes.{carried-length}
 
@@ -20,10 +20,6 @@ same-turned true true = refl
 same-turned true false = refl
 same-turned false true = refl
 same-turned false false = refl
-
-and-false : (b : Bool) → (b && false) ≡ false
-and-false true = refl
-and-false false = refl
 
 -- the carry passes an orthant whose bit is as the entry's sign
 abbrev pub passes : Bool → ℕ → ℕ → Bool

@@ -3,11 +3,11 @@ use mathlib.Core.Path.{_≡_, refl, sym, ap, _∙_}
 use mathlib.Core.List.{List, _++_}
 use Prim.Native.Nat.{ℕ, _+_, _-_, min, max, _≤_, _<_}
 use native.Mathlib.Omega.{arith}
-use native.Mathlib.Decide.{decLt, ℕ-discrete}
-use lib.ListN.{length, getD, take, drop, set, length-append, length-take, length-drop, length-set, List·getD-append}
-use lib.Seq.{getD-drop, getD-take, take-all, getD-append-add, getD-set-same, getD-set-other, ext-getD}
+use native.Mathlib.Decide.{decLt}
+use lib.ListN.{length, getD, take, drop, length-append, length-take, length-drop, List·getD-append}
+use lib.Seq.{getD-drop, getD-take, take-all, getD-append-add, ext-getD}
 use Rattle.entries.specs.Walks.{placeIn, place-under, place-past}
-use Rattle.entries.specs.Words.{bytesOf, four-at, WordAt, Puts}
+use Rattle.entries.specs.Words.{bytesOf, WordAt, word-byte, Puts}
 
 -- four bytes from a place on are copied, and the others stay
 pub record CopiesFour (at : ℕ) (src dst r : List ℕ) : Type 0 where
@@ -21,8 +21,7 @@ pub copies-four : {at w : ℕ} {src dst r : List ℕ} → WordAt src at w → Pu
 copies-four {at} {w} {src} {dst} {r} read p = record { size = p .size; before = p .before; copied = copied; past = p .past }
   where
     copied : (j : ℕ) → at ≤ j → j < at + 4 → getD r j 0 ≡ getD src j 0
-    copied j l u = ap (λ (x : ℕ). getD r x 0) there ∙ p .put (j - at) (omega arith) ∙ ap (λ (b : List ℕ). getD b (j - at) 0) (read .bytes)
-        ∙ four-at src at (j - at) (omega arith) ∙ ap (λ (x : ℕ). getD src x 0) (sym there)
+    copied j l u = ap (λ (x : ℕ). getD r x 0) there ∙ p .put (j - at) (omega arith) ∙ word-byte read j l u
       where
         there : j ≡ at + (j - at)
         there = omega arith

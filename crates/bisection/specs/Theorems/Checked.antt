@@ -25,6 +25,10 @@ both false t e = absurd (subst T (sym e) tt)
 pub and-both : (s t : Bool) → s ≡ true → t ≡ true → (s && t) ≡ true
 and-both s t e f = rw (e, f) refl
 
+pub and-false : (t : Bool) → (t && false) ≡ false
+and-false true = refl
+and-false false = refl
+
 pub each-at : (n : ℕ) (test : ℕ → Bool) → each n test ≡ true → (i : ℕ) → i < n → test i ≡ true
 unfolding each
 each-at zero test e i l = absurd (omega arith)

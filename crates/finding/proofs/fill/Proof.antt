@@ -1,6 +1,5 @@
 -- `fill` meets its contract. The loop keeps: the entries so far are those of their records, and the next one is at hand.
 use Prim.Native.Nat.{_-_}
-use native.Mathlib.Omega.{arith}
 use Rattle.sheets.specs.Steps.{markOf}
 use Rattle.finding.specs.Indexes.{Filling, fill-start, fill-at, fill-put, fill-count, fill-left, fill-end, fill-walk, fill-on, fill-less}
 use borrow.Author.Needs.{needs}

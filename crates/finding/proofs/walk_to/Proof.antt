@@ -3,7 +3,7 @@ use Prim.Native.Nat.{_-_}
 use native.Mathlib.Omega.{arith}
 use Rattle.sheets.specs.Steps.{markOf}
 use Rattle.finding.specs.Indexes.{Walking, walk-axes, walk-start, walk-at, walk-join, walk-next, walk-end}
-use Rattle.finding.specs.Records.{depth-sixty, record-two, record-code, record-above, record-power, record-known, record-deep, record-fits, record-count}
+use Rattle.finding.specs.Records.{depth-sixty, record-two, record-code, record-above, record-power, record-known, record-deep, record-fits}
 use borrow.Author.Needs.{needs}
 use Rattle.finding.proofs.walk_to.Statement.{statement}
 use Rattle.finding.proofs.walk_to.Tie as tie

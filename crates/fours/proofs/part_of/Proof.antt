@@ -15,7 +15,7 @@ unfolding partOf
 returns c =
     let start : tie.Start = search in
     let is-minus : tie.After-is-minus = search in
-    rw (c .pick .ensures, is-minus .is-minus .ensures, c .before .axis-of .ensures, shifted-bit (axis (start .args .e) % 8) (mod-lt (axis (start .args .e)) (omega arith))) refl
+    rw (c .pick .ensures, is-minus .is-minus .ensures, c .before .axis-of .ensures, shifted-bit 8 (axis (start .args .e) % 8) (mod-lt (axis (start .args .e)) (omega arith))) refl
 
 pub part-of-spec : {M : Type 1} → statement M
 part-of-spec =

@@ -1,6 +1,5 @@
 -- `walk` meets its contract. The loop keeps: the steps taken back are the path's end, start is where it leads, and k and
 -- boxes are those of the depth.
-use native.Mathlib.Omega.{arith}
 use Rattle.entries.specs.Words.{bytesOf}
 use Rattle.steps.specs.Climbs.{rise-boxes, rise-place, rise-room, rise-some, rise-ready}
 use Rattle.positions.specs.Walks.{Walked, walk-none, walk-next, walk-done, walk-weight, walk-start, walk-double}

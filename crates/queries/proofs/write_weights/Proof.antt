@@ -1,6 +1,5 @@
 -- `write_weights` meets its contract. The loop keeps: the weights from n on are still to be put.
 use Prim.Native.Nat.{suc, _-_}
-use native.Mathlib.Omega.{arith}
 use Rattle.queries.specs.Writing.{Writing, writing-start, writing-index, writing-few, writing-small, writing-room, writing-next, writing-same, writing-end}
 use borrow.Author.Needs.{needs}
 use Rattle.queries.proofs.write_weights.Statement.{statement}

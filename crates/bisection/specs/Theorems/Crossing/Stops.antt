@@ -11,12 +11,9 @@ use Rattle.dimension.specs.Laws.{split-range}
 use Rattle.bisection.specs.Codes.{axis, minus, high, Name}
 use Rattle.bisection.specs.Refusals.{ownMinus, sameSign}
 use Rattle.bisection.specs.Theorems.Passing.{Passes}
+use Rattle.bisection.specs.Theorems.Checked.{and-false}
 use Rattle.bisection.specs.Theorems.Table.{farther, flipped, runsOut, carried, firstEntry, orthantsBy, blockedBy}
 use Rattle.bisection.specs.Theorems.Crossing.Boxes.{less, own-cons}
-
-and-false : (t : Bool) → (t && false) ≡ false
-and-false true = refl
-and-false false = refl
 
 module _ (up : Bool) (a : ℕ) (ys : List ℕ) (e : runsOut up a ys ≡ false) where
   pub runsOut-front : (xs : List ℕ) → runsOut up a (xs ++ ys) ≡ false

@@ -1,10 +1,10 @@
 -- `permuted` meets its contract. The loop keeps: the entries before i are marked, and what is marked stands among the d.
-use mathlib.Core.Path.{refl, _∙_}
+use mathlib.Core.Path.{refl}
 use Prim.Native.Nat.{_-_}
 use lib.ListN.{take}
 use lib.Pow.{pow-pos}
 use native.Mathlib.Omega.{arith}
-use Rattle.entries.specs.Masks.{shifted-wide}
+use Rattle.entries.specs.Masks.{shifted-bit}
 use Rattle.entries.specs.Marks.{Marked, marked-none, marked-more, permuted-all}
 use Rattle.entries.specs.Words.{bytesOf}
 use borrow.Author.Needs.{needs}
@@ -28,7 +28,7 @@ loop-again c =
 sub-result : tie.Need-sub-result Inv-loop μ-loop
 sub-result c =
     let start : tie.Start Inv-loop μ-loop = search in
-    rw (shifted-wide (start .args .d) (omega (arith, start .pre .1))) (pow-pos (start .args .d))
+    rw (shifted-bit 32 (start .args .d) (omega (arith, start .pre .1))) (pow-pos (start .args .d))
 
 returns : tie.Need-returns Inv-loop μ-loop
 returns c =

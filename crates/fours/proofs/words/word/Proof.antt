@@ -5,17 +5,4 @@ use Rattle.fours.proofs.words.word.Statement.{statement}
 use Rattle.fours.proofs.words.word.Tie as tie
 
 pub word-spec : {M : Type 1} → statement M
-word-spec =
-    tie.close
-    (tie.spec
-    (λ c κs. search needs)
-    (λ c κs. search needs)
-    (λ c. search needs)
-    (λ c. search needs)
-    (λ c κs. search needs)
-    (λ c. search needs)
-    (λ c. search needs)
-    (λ c κs. search needs)
-    (λ c. search needs)
-    (λ c. search needs)
-    (λ c. search (needs, word-is)))
+word-spec = tie.close (tie.spec (λ c κs. search needs) (λ c. search (needs, word-is)))

@@ -1,5 +1,5 @@
 -- `carry` meets its contract. The loop keeps: the orthants from `start` to t are flipped.
-use Prim.Native.Nat.{_+_, _-_, _≤_, _<_}
+use Prim.Native.Nat.{_-_, _≤_, _<_}
 use native.Mathlib.Omega.{arith}
 use Rattle.moves.specs.Carrying.{Flips, flips-none, flips-next, flips-join}
 use borrow.Author.Needs.{needs}

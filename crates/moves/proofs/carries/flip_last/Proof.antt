@@ -1,5 +1,4 @@
 -- `flip_last` meets its contract: the last four are read, flipped and put as one word.
-use native.Mathlib.Omega.{arith}
 use Rattle.moves.specs.CarryWords.{flips-word}
 use borrow.Author.Needs.{needs}
 use Rattle.moves.proofs.carries.flip_last.Statement.{statement}
