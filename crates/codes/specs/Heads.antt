@@ -1,21 +1,20 @@
 -- The head of a code and the order of refusals, one law for each way out of the code that decides them.
 use mathlib.Core.Path.{_≡_, refl, sym, ap, _∙_}
-use mathlib.Core.Bool.{Bool, true, false, not, _&&_}
+use mathlib.Core.Bool.{Bool, true, false, not}
 use mathlib.Core.List.{List}
 use mathlib.Core.Logic.{_≢_}
 use Prim.Native.Nat.{ℕ, _+_, _≤_, _<_}
 use native.Mathlib.Omega.{arith}
-use lib.Dec.{leb}
-use lib.ListN.{length, getD, drop, length-drop}
-use lib.Seq.{paste}
+use lib.ListN.{length, getD, take, drop, length-drop}
+use lib.Seq.{paste, length-paste, getD-take}
 use borrow.Author.Tests.{lt-leb, le-leb, ne-eqb, leb-true, not-true, not-false}
 use Rattle.dimension.specs.Sizes.{isDimension, halvings, greatestDepth, codeLength, boxDepth, splitPlace}
 use Rattle.dimension.specs.Laws.{Dimension, dimension, box-in, split-range}
-use Rattle.bisection.specs.Codes.{axis, dimensionOf, depthOf, entriesOf, orthantsOf}
-use Rattle.bisection.specs.Refusals.{done, refusedDimension, refusedDepth, refusedLength, refusedPermutation, refusedOrthant, refusedSign, fresh, permutes, orthantsFit, signsOwn, headRefusal, lengthOf, bodyRefusal, codeRefusal}
-use Rattle.bisection.specs.Theorems.Checked.{each-at, both}
+use Rattle.bisection.specs.Codes.{dimensionOf, depthOf, entriesOf, orthantsOf}
+use Rattle.bisection.specs.Refusals.{done, refusedDimension, refusedDepth, refusedLength, refusedPermutation, refusedOrthant, refusedSign, permutes, orthantsFit, signsOwn, headRefusal, lengthOf, bodyRefusal, codeRefusal}
 use Rattle.bisection.specs.Theorems.Ladders.{first-is, all-hold, holds, fails, past, stops, held-at}
-use Rattle.entries.specs.Walks.{entryFits, permutes-same, permutes-take, ownByte, signsBy, signs-by, AxesWithin, at-place}
+use Rattle.entries.specs.SignMasks.{AxesWithin, permuted-axes}
+use Rattle.entries.specs.Walks.{permutes-same, ownByte, signsBy, signs-by}
 use Rattle.entries.specs.Words.{NoneBehind}
 use Rattle.fours.specs.Fours.{noEntries}
 use Rattle.fours.specs.Laws.{pasted-at, pasted-none}
@@ -79,17 +78,6 @@ module _ {code : List ℕ} (b : Headed code) where
   ready-few : length code ≤ 2 + dimensionOf code + halvings
   ready-few = omega (arith, size, box-in (dimensionOf code) (depthOf code) (omega (arith, ready-range .two)) ready-depth)
 
--- entries that make a permutation have axes with bits
-axes-within : (code : List ℕ) (n : ℕ) → permutes n (drop 2 code) ≡ true → n ≤ 8 → (k : ℕ) → k ≤ n → AxesWithin k code
-unfolding permutes
-axes-within code n p small k l = record {
-  low = λ i h. rw (at-place code 2 i) (leb-true 1 (axis (getD (drop 2 code) i 0)) (both (leb 1 (axis (getD (drop 2 code) i 0))) (leb (axis (getD (drop 2 code) i 0)) n) (fit i h) .0));
-  high = λ i h. rw (at-place code 2 i) (omega (arith, leb-true (axis (getD (drop 2 code) i 0)) n (both (leb 1 (axis (getD (drop 2 code) i 0))) (leb (axis (getD (drop 2 code) i 0)) n) (fit i h) .1)));
-}
-  where
-    fit : (i : ℕ) → i < k → (leb 1 (axis (getD (drop 2 code) i 0)) && leb (axis (getD (drop 2 code) i 0)) n) ≡ true
-    fit i h = both (leb 1 (axis (getD (drop 2 code) i 0)) && leb (axis (getD (drop 2 code) i 0)) n) (fresh (drop 2 code) (axis (getD (drop 2 code) i 0)) i) (each-at n (entryFits n (drop 2 code)) p i (omega arith)) .0
-
 -- the body's tests, as the code has the first byte
 module _ {code : List ℕ} (ready : Headed code) {n : ℕ} (byte : n ≡ getD code 0 0) where
   is-dimension : n ≡ dimensionOf code
@@ -128,18 +116,18 @@ module _ {code : List ℕ} (ready : Headed code) {n : ℕ} (byte : n ≡ getD co
   pub body-behind : NoneBehind n es
   body-behind = pasted-none (drop 2 code) (body-few ready byte) room read
 
-  body-same : permutes n es ≡ permutes n (drop 2 code)
-  body-same = permutes-same n es (drop 2 code) (pasted-at (drop 2 code) (body-few ready byte) room read)
+  body-long : n ≤ length es
+  body-long = rw read (omega (arith, length-paste noEntries 0 (drop 2 code) n (omega (arith, body-few ready byte)) room, body-few ready byte))
+
+  body-at : (i : ℕ) → i < n → getD es i 0 ≡ getD (take n (drop 2 code)) i 0
+  body-at i h = pasted-at (drop 2 code) (body-few ready byte) room read i h ∙ sym (getD-take n (drop 2 code) i 0 h)
 
 -- the body, one law for each way out, over what the code has found there
 module _ {code : List ℕ} (ready : Headed code) {n : ℕ} (byte : n ≡ getD code 0 0) {es : List ℕ} (read : es ≡ paste noEntries 0 (drop 2 code) n)
     {permuted : Bool} (marked : permuted ≡ permutes n es) where
-  tested : permuted ≡ permutes n (drop 2 code)
-  tested = marked ∙ body-same ready byte read
-
   permuted-as : permutes (dimensionOf code) (entriesOf code) ≡ permuted
   unfolding entriesOf
-  permuted-as = rw (← is-dimension ready byte) (permutes-take n (drop 2 code) ∙ sym tested)
+  permuted-as = rw (← is-dimension ready byte) (sym (marked ∙ permutes-same n es (take n (drop 2 code)) (body-at ready byte read)))
 
   pub body-permutation : not permuted ≡ true → refusedPermutation ≡ innerRefusal code
   unfolding bodyRefusal
@@ -164,23 +152,20 @@ module _ {code : List ℕ} (ready : Headed code) {n : ℕ} (byte : n ≡ getD co
       place : (1 ≤ k) × (k ≤ n)
       place = rw split (split-range n (depthOf code) (body-some ready byte))
 
-      -- the entries that the sign test reads have axes with bits
+      -- the entries that the sign test reads
       pub signs-some : 1 ≤ k
       signs-some = place .0
 
       pub signs-few : k ≤ 4
       signs-few = omega (arith, place, body-few ready byte)
 
-      pub signs-room : 2 + k ≤ length code
-      signs-room = omega (arith, place, body-room ready byte)
+      pub signs-axes : AxesWithin k es
+      signs-axes = permuted-axes (sym marked ∙ not-false permuted t) (body-behind ready byte read) (body-long ready byte read) (body-mask ready byte) (place .1)
 
-      pub signs-axes : AxesWithin k code
-      signs-axes = axes-within code n (sym tested ∙ not-false permuted t) (body-mask ready byte) k (place .1)
-
-      module _ {own : ℕ} {signed : Bool} (owned : own ≡ ownByte (drop (2 + n) code)) (signs : signed ≡ signsBy k (drop 2 code) own) where
+      module _ {own : ℕ} {signed : Bool} (owned : own ≡ ownByte (drop (2 + n) code)) (signs : signed ≡ signsBy k es own) where
         signs-as : signsOwn (splitPlace (dimensionOf code) (depthOf code)) (entriesOf code) (orthantsOf code) ≡ signed
         unfolding entriesOf orthantsOf
-        signs-as = rw (← split-is, ← is-dimension ready byte) (sym (signs-by n k (drop 2 code) (drop (2 + n) code) (place .1)) ∙ rw (← owned) (sym signs))
+        signs-as = rw (← split-is, ← is-dimension ready byte) (sym (signs-by k es (take n (drop 2 code)) (drop (2 + n) code) (λ i h. body-at ready byte read i (omega (arith, place)))) ∙ rw (← owned) (sym signs))
 
         pub body-sign : not signed ≡ true → refusedSign ≡ innerRefusal code
         unfolding bodyRefusal

@@ -93,14 +93,15 @@ pub fn code_body(code: &[u8]) -> u8
 {
     let code = &*code; // lent on anew, it comes in registers
     let d = common::size(code[0]);
-    if !check::permuted(words::word_in(code, d), d) {
+    let entries = words::word_in(code, d);
+    if !check::permuted(entries, d) {
         return REFUSED_PERMUTATION;
     }
     if !check::orthants_fit(code, d) {
         return REFUSED_ORTHANT;
     }
     let k = check::split_of(code, d);
-    if !check::signs_by(code, k, check::own_byte(code, d)) {
+    if !check::signs_by(entries, k, check::own_byte(code, d)) {
         return REFUSED_SIGN;
     }
     DONE

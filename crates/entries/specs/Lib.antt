@@ -4,9 +4,10 @@ pub mod Signs
 pub mod Masks
 -- Bytes as one word.
 pub mod Words
--- The walks that test a code; the permutation by its marks.
+-- The walks that test a code; the permutation and the signs by masks.
 pub mod Walks
 pub mod Fitting
 pub mod Marks
+pub mod SignMasks
 -- What a check that passes tells.
 pub mod Passed

@@ -2,24 +2,24 @@
 -- each of them just once; and d entries with the axes 1..d, none repeated, have every mark of 1..d and no other.
 use mathlib.Core.Path.{_≡_, refl, sym, ap, _∙_, subst}
 use mathlib.Core.Bool.{Bool, true, false, cond}
-use mathlib.Core.List.{List}
+use mathlib.Core.List.{List, [], _∷_, map}
 use Prim.Native.Nat.{ℕ, zero, suc, _+_, _-_, _*_, _%_, _^_, _≤_, _<_}
 use native.Mathlib.Omega.{arith}
 use native.Mathlib.Decide.{decLt, decLe, ℕ-discrete}
 use lib.Dec.{T, eqb, leb}
-use lib.Bits.{bitOr}
+use lib.Bits.{bitOr, or-zero-l}
 use lib.Pow.{pow-pos, pow-lt}
 use lib.ListN.{length, getD, take, List·getD-eq-default}
 use lib.Seq.{getD-take, length-take-le}
 use borrow.Author.Tests.{eq-eqb, ne-eqb, le-leb, lt-leb}
-use Rattle.bisection.specs.Codes.{axis, minus, high}
+use Rattle.bisection.specs.Codes.{axis, high}
 use Rattle.bisection.specs.Refusals.{each, permutes, sameSign}
 use Rattle.bisection.specs.Theorems.Onto.{Sought, sought, found, none, Taken, onto}
 use Rattle.bisection.specs.Theorems.Entries.{Signed, Stands, stands}
 use Rattle.bisection.specs.Theorems.Orthants.{bits-same}
 use Rattle.bisection.specs.Theorems.Passing.{same-true}
 use Rattle.bisection.specs.Theorems.Checked.{each-at, permutes-signed, signed-permutes}
-use Rattle.entries.specs.Masks.{markOf, marked-high, marked-byte, high-none, shifted-bit}
+use Rattle.entries.specs.Masks.{markOf, negatedAlone, axis-none, marked-high, marked-byte, high-none, shifted-bit}
 use Rattle.entries.specs.Walks.{permutes-take}
 use Rattle.entries.specs.Words.{NoneBehind}
 
@@ -72,10 +72,6 @@ full-high d zero h l u = absurd (omega arith)
 full-high d (suc a) h l u = same-true (high (2 ^ d - 1) (suc a)) (leb (suc a) d)
     (each-at 8 (λ a. sameSign (high (2 ^ d - 1) (suc a)) (leb (suc a) d))
     (each-at 9 (λ d. each 8 (λ a. sameSign (high (2 ^ d - 1) (suc a)) (leb (suc a) d))) marks-table d h) a (omega arith))
-
-axis-none : axis 0 ≡ 0
-unfolding axis minus
-axis-none = refl
 
 -- the walk: the entries before place i are marked, and what is marked stands among the d
 pub record Marked (d : ℕ) (es : List ℕ) (i seen : ℕ) : Type 0 where
@@ -136,6 +132,26 @@ module _ {d : ℕ} {es : List ℕ} {i seen : ℕ} (m : Marked d es i seen) where
           wrong false e = refl
           wrong true e = absurd (n (bits-same 8 seen (2 ^ d - 1) (m .byte) (omega (arith, pow-lt {i = d} {j = 8} (omega arith)))
               (λ a l u. high-of (permutes-signed d es size e) a l u (decLe a d) ∙ sym (full-high d a (omega arith) l u))))
+
+-- what the four entries of a word mark
+abbrev pub MarksOf : List ℕ → ℕ → Type 0
+MarksOf es seen = Marked 4 es 4 seen
+
+-- as the code joins the marks of its bytes
+pub four-marks : {a b c e p q r s x y z u : ℕ} → p ≡ a → q ≡ b → r ≡ c → s ≡ e → x ≡ markOf (axis p) → y ≡ markOf (axis q) → z ≡ markOf (axis r) → u ≡ markOf (axis s)
+    → MarksOf (a ∷ b ∷ c ∷ e ∷ []) (bitOr (bitOr (bitOr x y) z) u)
+four-marks {a} {b} {c} {e} f g h k f' g' h' k' = rw (f', g', h', k', f, g, h, k, ← or-zero-l (markOf (axis a))) fourth
+  where
+    es : List ℕ
+    es = a ∷ b ∷ c ∷ e ∷ []
+
+    fourth : MarksOf es (bitOr (bitOr (bitOr (bitOr 0 (markOf (axis a))) (markOf (axis b))) (markOf (axis c))) (markOf (axis e)))
+    fourth = marked-next (marked-next (marked-next (marked-next (marked-none 4 es) refl a refl) refl b refl) refl c refl) refl e refl
+
+pub four-minus-marks : {a b c e p q r s x y z u : ℕ} → p ≡ a → q ≡ b → r ≡ c → s ≡ e
+    → x ≡ markOf (axis (negatedAlone p)) → y ≡ markOf (axis (negatedAlone q)) → z ≡ markOf (axis (negatedAlone r)) → u ≡ markOf (axis (negatedAlone s))
+    → MarksOf (map negatedAlone (a ∷ b ∷ c ∷ e ∷ [])) (bitOr (bitOr (bitOr x y) z) u)
+four-minus-marks f g h k = four-marks (ap negatedAlone f) (ap negatedAlone g) (ap negatedAlone h) (ap negatedAlone k)
 
 -- entries with zeros behind them
 module _ {d i seen : ℕ} {es : List ℕ} (long : length es ≡ 4) (few : d ≤ 4) (behind : NoneBehind d es) (m : Marked d (take d es) i seen) where

@@ -4,13 +4,13 @@ use mathlib.Core.Bool.{Bool, true, false, cond, _&&_}
 use Prim.Native.Nat.{ℕ, zero, suc, _-_, _*_, _/_, _%_, _^_, max, _≤_, _<_}
 use mathlib.Core.Logic.{_≢_}
 use native.Mathlib.Omega.{arith}
-use native.Mathlib.Nat.{zero-div, mod-lt, one-mul, mod-eq-of-lt, div-self, div-eq-of-lt}
+use native.Mathlib.Nat.{zero-div, mod-lt, zero-mul, one-mul, mod-eq-of-lt, div-self, div-eq-of-lt}
 use native.Mathlib.Decide.{ℕ-discrete, decLt}
 use lib.Dec.{eqb, leb}
-use lib.Bits.{bitOr, bitAnd, or-shr, or-mod, or-zero-l, or-zero-r, or-lt, and-mask}
+use lib.Bits.{bitOr, bitAnd, and-zero-l, and-shr, and-mod, or-shr, or-mod, or-zero-l, or-zero-r, or-lt, and-mask}
 use lib.Pow.{pow-pos, pow-lt}
 use borrow.Author.Tests.{eq-eqb, ne-eqb, le-leb, lt-leb}
-use Rattle.bisection.specs.Codes.{high}
+use Rattle.bisection.specs.Codes.{axis, minus, high}
 use Rattle.bisection.specs.Theorems.Orthants.{low-bit}
 
 pub high-masked : (o a : ℕ) → eqb (bitAnd (o / 2 ^ (a - 1)) 1) 1 ≡ high o a
@@ -27,6 +27,18 @@ bit-or a b j = rw (or-shr a b j) (or-mod (a / 2 ^ j) (b / 2 ^ j) 1 ∙ two (a / 
   where
     two : (x y : ℕ) → x < 2 → y < 2 → bitOr x y ≡ max x y
     two zero y h l = or-zero-l y ∙ sym (omega arith)
+    two (suc zero) zero h l = refl
+    two (suc zero) (suc zero) h l = refl
+    two (suc zero) (suc (suc y)) h l = absurd (omega arith)
+    two (suc (suc x)) y h l = absurd (omega arith)
+
+-- bits of a meet
+pub high-and : (o p a : ℕ) → high (bitAnd o p) a ≡ (high o a && high p a)
+unfolding high
+high-and o p a = rw (and-shr o p (a - 1)) (ap (λ (x : ℕ). eqb x 1) (and-mod (o / 2 ^ (a - 1)) (p / 2 ^ (a - 1)) 1) ∙ two (o / 2 ^ (a - 1) % 2) (p / 2 ^ (a - 1) % 2) (mod-lt (o / 2 ^ (a - 1)) (omega arith)) (mod-lt (p / 2 ^ (a - 1)) (omega arith)))
+  where
+    two : (x y : ℕ) → x < 2 → y < 2 → eqb (bitAnd x y) 1 ≡ (eqb x 1 && eqb y 1)
+    two zero y h l = ap (λ (x : ℕ). eqb x 1) (and-zero-l y)
     two (suc zero) zero h l = refl
     two (suc zero) (suc zero) h l = refl
     two (suc zero) (suc (suc y)) h l = absurd (omega arith)
@@ -101,6 +113,31 @@ mark-as {a} e l = ap (λ (y : ℕ). y / 2) (shifted-bit 32 a (omega arith)) ∙ 
 
 pub mark-past : {a x : ℕ} → a ≡ x → 8 < a → 0 ≡ markOf x
 mark-past {a} {x} e h = sym (mark-over x (omega arith))
+
+-- an entry with a minus; one that has none goes, and 0 stands in its place
+unfoldable pub negatedAlone : ℕ → ℕ
+negatedAlone e = cond (minus e) e 0
+
+pub axis-none : axis 0 ≡ 0
+unfolding axis minus
+axis-none = refl
+
+pub minus-alone : (e : ℕ) → minus e ≡ true → negatedAlone e ≡ e
+unfolding negatedAlone
+minus-alone e h = rw h refl
+
+pub plus-alone : (e : ℕ) → minus e ≡ false → negatedAlone e ≡ 0
+unfolding negatedAlone
+plus-alone e h = rw h refl
+
+-- as the code makes its mark: the bit of the minus, shifted to the axis
+pub minus-mark-as : (e : ℕ) {s a : ℕ} → e < 256 → s ≡ e / 2 ^ 7 → a ≡ axis e → a ≤ 8 → s * 2 ^ a % 2 ^ 32 / 2 ≡ markOf (axis (negatedAlone e))
+minus-mark-as e {s} {a} small f g l = go (decLt e 128)
+  where
+    go : Dec (e < 128) → s * 2 ^ a % 2 ^ 32 / 2 ≡ markOf (axis (negatedAlone e))
+    go (yes h) = let none : s ≡ 0 = omega arith in
+        rw (none, zero-mul (2 ^ a), plus-alone e (unfold minus in lt-leb 128 e h), axis-none) (sym (mark-none 0 (omega arith)))
+    go (no h) = let one : s ≡ 1 = omega arith in rw (one, minus-alone e (unfold minus in le-leb 128 e (omega arith))) (mark-as g l)
 
 -- a mark or-ed to a byte makes its axis high, and changes no other
 module _ (o a : ℕ) where

@@ -7,7 +7,7 @@ use native.Mathlib.Omega.{arith}
 use native.Mathlib.Numerals.{add-one}
 use native.Mathlib.Nat.{mod-lt, zero-add}
 use native.Mathlib.Decide.{decLt}
-use lib.Dec.{T, eqb, leb, ltb}
+use lib.Dec.{eqb, leb, ltb}
 use lib.Bits.{bitAnd, and-mask}
 use lib.ListN.{length, getD, take, drop, length-drop, drop-of-length-le}
 use lib.Seq.{getD-drop, getD-take}
@@ -75,25 +75,10 @@ signTest es own i = sameSign (minus (getD es i 0)) (high own (axis (getD es i 0)
 unfoldable pub signsBy : ℕ → List ℕ → ℕ → Bool
 signsBy k es own = each k (signTest es own)
 
-pub signs-by : (d k : ℕ) (l os : List ℕ) → k ≤ d → signsBy k l (ownByte os) ≡ signsOwn k (take d l) os
+-- only the first k entries count
+pub signs-by : (k : ℕ) (l m os : List ℕ) → ((i : ℕ) → i < k → getD l i 0 ≡ getD m i 0) → signsBy k l (ownByte os) ≡ signsOwn k m os
 unfolding signsBy signsOwn ownMinus
-signs-by d k l os h = each-same k (signTest l (ownByte os)) (λ i. sameSign (minus (getD (take d l) i 0)) (high (ownByte os) (axis (getD (take d l) i 0))))
-    (λ i q. rw (getD-take d l i 0 (omega arith)) refl)
-
--- the first k entries have axes that a byte has bits for
-pub record AxesWithin (k : ℕ) (code : List ℕ) : Type 0 where
-  pub low : (i : ℕ) → i < k → 1 ≤ axis (getD code (2 + i) 0)
-  pub high : (i : ℕ) → i < k → axis (getD code (2 + i) 0) ≤ 8
-
-pub record SignsSoFar (es : List ℕ) (own i : ℕ) : Type 0 where
-  pub so-far : each i (signTest es own) ≡ true
-
-pub signs-none : (es : List ℕ) (own : ℕ) → SignsSoFar es own 0
-unfolding each
-signs-none es own = record { so-far = refl }
-
-pub at-place : (l : List ℕ) (at i : ℕ) → getD l (at + i) 0 ≡ getD (drop at l) i 0
-at-place l at i = sym (getD-drop at l i 0)
+signs-by k l m os e = each-same k (signTest l (ownByte os)) (λ i. sameSign (minus (getD m i 0)) (high (ownByte os) (axis (getD m i 0)))) (λ i q. rw (e i q) refl)
 
 -- an entry of the d from a place
 pub entry-at : (l : List ℕ) (at d i : ℕ) → i < d → getD l (at + i) 0 ≡ getD (take d (drop at l)) i 0
@@ -108,36 +93,6 @@ own-last l n h e = sym (rw (length-drop n l) (getD-drop n l (length l - n - 1) 0
   where
     last : n + (length l - n - 1) ≡ length l - 1
     last = omega arith
-
-module _ {es : List ℕ} {own i : ℕ} (s : SignsSoFar es own i) where
-  pub signs-next : signTest es own i ≡ true → SignsSoFar es own (i + 1)
-  signs-next e = record { so-far = each-more i (signTest es own) (s .so-far) e }
-
-  pub signs-all : {k : ℕ} → i ≤ k → k ≤ i → true ≡ signsBy k es own
-  unfolding signsBy
-  signs-all {k} l u = sym (subst (λ (n : ℕ). each n (signTest es own) ≡ true) (omega arith) (s .so-far))
-
--- the walk over a fixed number of places: of those before i, the ones under k carry the own sign
-pub record SignsUpTo (es : List ℕ) (own k i : ℕ) : Type 0 where
-  pub up-to : (n : ℕ) → n ≤ i → n ≤ k → SignsSoFar es own n
-
-pub up-to-none : (es : List ℕ) (own k : ℕ) → SignsUpTo es own k 0
-up-to-none es own k = record { up-to = λ n l m. subst (SignsSoFar es own) (omega arith) (signs-none es own) }
-
-module _ {es : List ℕ} {own k i : ℕ} (u : SignsUpTo es own k i) where
-  pub up-to-next : signTest es own (placeIn i k) ≡ true → SignsUpTo es own k (i + 1)
-  up-to-next e = record { up-to = λ n l m. go n l m (decLt i n) }
-    where
-      go : (n : ℕ) → n ≤ i + 1 → n ≤ k → Dec (i < n) → SignsSoFar es own n
-      go n l m (no h) = u .up-to n (omega arith) m
-      go n l m (yes h) = subst (SignsSoFar es own) (omega arith) (signs-next (u .up-to i (omega arith) (omega arith)) (ap (signTest es own) (sym (place-under i k (omega arith))) ∙ e))
-
-  pub up-to-all : k ≤ i → true ≡ signsBy k es own
-  up-to-all l = signs-all (u .up-to k l (omega arith)) (omega arith) (omega arith)
-
-pub up-to-fail : (es : List ℕ) (own k i : ℕ) → 0 < k → signTest es own (placeIn i k) ≡ false → false ≡ signsBy k es own
-unfolding signsBy
-up-to-fail es own k i p h = sym (each-fails k (signTest es own) (placeIn i k) (place-within i k p) h)
 
 -- one sign test, as the code compares two bits
 pub sign-bits : (e own : ℕ) {a : ℕ} → e < 256 → a ≡ axis e → eqb (bitAnd (own / 2 ^ (a - 1)) 1) (e / 2 ^ 7) ≡ sameSign (minus e) (high own (axis e))

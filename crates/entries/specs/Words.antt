@@ -4,8 +4,10 @@ use mathlib.Core.Logic.{_≢_}
 use mathlib.Core.List.{List, [], _∷_}
 use Prim.Native.Nat.{ℕ, zero, suc, _+_, _-_, _*_, _/_, _%_, _^_, _≤_, _<_}
 use native.Mathlib.Omega.{arith}
+use native.Mathlib.Nat.{mod-lt, div-eq-of-lt, lt-of-lt-of-le}
 use native.Mathlib.Decide.{decLt}
 use lib.Bits.{bitAnd, bitOr, bitXor, and-shr, and-mod, or-shr, or-mod, xor-shr, xor-mod}
+use lib.Pow.{pow-pos, pow-mono, field, shl-shr, mod-mod-pow}
 use lib.ListN.{length, getD, set, length-set, List·getD-eq-default}
 use lib.Seq.{getD-set-same, getD-set-other}
 
@@ -60,6 +62,11 @@ none-behind l e = record { none = λ m h. ap (λ (x : List ℕ). getD x m 0) e �
     go m h (yes q) = four-at l 0 m q ∙ List·getD-eq-default l 0 {n = 0 + m} (omega arith)
     go m h (no q) = List·getD-eq-default (fourFrom l 0) 0 {n = m} (omega arith)
 
+-- the first k, and zeros behind them
+pub record FirstOf (k : ℕ) (es fs : List ℕ) : Type 0 where
+  pub kept : (i : ℕ) → i < k → getD fs i 0 ≡ getD es i 0
+  pub none : (i : ℕ) → k ≤ i → getD fs i 0 ≡ 0
+
 -- the word of the four from a place on
 pub record WordAt (l : List ℕ) (at w : ℕ) : Type 0 where
   pub is : w ≡ wordOf (fourFrom l at)
@@ -81,6 +88,21 @@ byte-at w (suc zero) h = refl
 byte-at w (suc (suc zero)) h = refl
 byte-at w (suc (suc (suc zero))) h = refl
 byte-at w (suc (suc (suc (suc n)))) h = absurd (omega arith)
+
+-- the first k as the code keeps them: those behind are shifted out, and the others back
+pub first-of : (w : ℕ) {k : ℕ} → k ≤ 4 → FirstOf k (bytesOf w) (bytesOf (w * 2 ^ (8 * (4 - k)) % 2 ^ 32 / 2 ^ (8 * (4 - k))))
+first-of w {k} few = rw low (record { kept = kept; none = λ i h. none i h (decLt i 4) })
+  where
+    low : w * 2 ^ (8 * (4 - k)) % 2 ^ 32 / 2 ^ (8 * (4 - k)) ≡ w % 2 ^ (8 * k)
+    low = let all : 32 ≡ 8 * k + 8 * (4 - k) = omega arith in ap (λ (n : ℕ). w * 2 ^ (8 * (4 - k)) % 2 ^ n / 2 ^ (8 * (4 - k))) all ∙ field (w * 2 ^ (8 * (4 - k))) (8 * k) (8 * (4 - k)) ∙ ap (λ (x : ℕ). x % 2 ^ (8 * k)) (shl-shr w (8 * (4 - k)))
+
+    kept : (i : ℕ) → i < k → getD (bytesOf (w % 2 ^ (8 * k))) i 0 ≡ getD (bytesOf w) i 0
+    kept i h = let all : 8 * k ≡ 8 * (k - i - 1) + 8 + 8 * i = omega arith in rw (← byte-at (w % 2 ^ (8 * k)) i (omega arith), ← byte-at w i (omega arith))
+        (ap (λ (n : ℕ). w % 2 ^ n / 2 ^ (8 * i) % 256) all ∙ ap (λ (x : ℕ). x % 256) (field w (8 * (k - i - 1) + 8) (8 * i)) ∙ mod-mod-pow (w / 2 ^ (8 * i)) (8 * (k - i - 1)) 8)
+
+    none : (i : ℕ) → k ≤ i → Dec (i < 4) → getD (bytesOf (w % 2 ^ (8 * k))) i 0 ≡ 0
+    none i h (yes q) = rw (← byte-at (w % 2 ^ (8 * k)) i q) (ap (λ (x : ℕ). x % 256) (div-eq-of-lt (lt-of-lt-of-le (mod-lt w (pow-pos (8 * k))) (pow-mono {i = 8 * k} {j = 8 * i} (omega arith)))))
+    none i h (no q) = List·getD-eq-default (bytesOf (w % 2 ^ (8 * k))) 0 {n = i} (omega arith)
 
 -- the bytes of two words and-ed, or-ed, xor-ed
 pub and-byte : (x y m : ℕ) → m < 4 → getD (bytesOf (bitAnd x y)) m 0 ≡ bitAnd (getD (bytesOf x) m 0) (getD (bytesOf y) m 0)

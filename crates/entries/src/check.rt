@@ -1,16 +1,20 @@
-// The tests of a code's body: its permutation, its orthant bytes, its signs. Each is a walk over lent bytes. And what is read off
-// a code that passes.
+// The tests of a code's body: its permutation and its signs, by masks of its entries' one word, and its orthant bytes. And what is
+// read off a code that passes.
 ghost use mathlib.Core.Path.{_≡_};
 ghost use Prim.Native.Nat.{_+_, _-_, _^_, min, _≤_, _<_};
 ghost use lib.ListN.{length, drop};
 ghost use mathlib.Core.Bool.{cond};
+ghost use mathlib.Core.List.{map};
 ghost use lib.Dec.{ltb};
 ghost use Rattle.dimension.specs.Sizes.{axesOf, halvings, codeLength, splitPlace};
 ghost use Rattle.bisection.specs.Codes.{axis, minus, high, dimensionOf, depthOf};
 ghost use Rattle.bisection.specs.Refusals.{done, codeRefusal, permutes, orthantsFit, sameSign, isRoot, isPath};
 ghost use Rattle.entries.specs.Fitting.{OrthantsFrom};
+ghost use Rattle.entries.specs.Masks.{negatedAlone};
+ghost use Rattle.entries.specs.Marks.{MarksOf};
+ghost use Rattle.entries.specs.SignMasks.{HaveBits, AxesWithin};
 ghost use Rattle.entries.specs.Words.{bytesOf, NoneBehind};
-ghost use Rattle.entries.specs.Walks.{ownByte, signsBy, AxesWithin};
+ghost use Rattle.entries.specs.Walks.{ownByte, signsBy};
 use crate::words;
 use dimension::Dim;
 
@@ -137,21 +141,37 @@ pub fn same_sign(e: u8, own: u8) -> bool
     (own >> (crate::axis_of(e) - 1)) & 1 == e >> 7
 }
 
-// The first k entries carry the own sign that the orthant byte gives: the sign test, entry by entry. Where there are fewer
-// than the most axes it tests the first one again.
-pub fn signs_by(code: &[u8], k: usize, own: u8) -> bool
-    requires { ⌜ (1 ≤ k) × (k ≤ 4) × (2 + k ≤ length (now code)) × AxesWithin k (now code) ⌝ }
-    ensures { λ r. ⌜ r ≡ signsBy k (drop 2 (now (code .entry))) own ⌝ }
+// The axes of a word's four entries, as one mask.
+fn axes_in(entries: u32) -> u32
+    requires { ⌜ HaveBits (bytesOf entries) ⌝ }
+    ensures { λ r. ⌜ MarksOf (bytesOf entries) r ⌝ }
 {
-    let mut i: usize = 0;
-    while i < Dim::MOST_AXES {
-        let j = place_in(i, k);
-        if !same_sign(code[2 + j], own) {
-            return false;
-        }
-        i += 1;
-    }
-    true
+    crate::mark_within(words::byte(entries, 0))
+        | crate::mark_within(words::byte(entries, 8))
+        | crate::mark_within(words::byte(entries, 16))
+        | crate::mark_within(words::byte(entries, 24))
+}
+
+// The negated ones among them, as another.
+fn negated_in(entries: u32) -> u32
+    requires { ⌜ HaveBits (bytesOf entries) ⌝ }
+    ensures { λ r. ⌜ MarksOf (map negatedAlone (bytesOf entries)) r ⌝ }
+{
+    crate::minus_mark(words::byte(entries, 0))
+        | crate::minus_mark(words::byte(entries, 8))
+        | crate::minus_mark(words::byte(entries, 16))
+        | crate::minus_mark(words::byte(entries, 24))
+}
+
+// The first k entries carry the own sign that the orthant byte gives: of their axes, it is high on the negated ones and on no other.
+pub fn signs_by(entries: u32, k: usize, own: u8) -> bool
+    requires { ⌜ (1 ≤ k) × (k ≤ 4) × AxesWithin k (bytesOf entries) ⌝ }
+    ensures { λ r. ⌜ r ≡ signsBy k (bytesOf entries) own ⌝ }
+{
+    let first = words::first(entries, k);
+    let axes = axes_in(first);
+    let high = words::wide(own);
+    axes & high == negated_in(first)
 }
 
 // The bytes are those of a root: a permutation of the axes, and no byte with a sign.

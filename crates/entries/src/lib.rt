@@ -9,7 +9,7 @@ ghost use mir.Syntax.{w8};
 ghost use mir.Val.{SFits};
 ghost use Rattle.bisection.specs.Codes.{axis, minus, negated, high};
 ghost use Rattle.entries.specs.Signs.{signedOf, byteOf};
-ghost use Rattle.entries.specs.Masks.{markOf};
+ghost use Rattle.entries.specs.Masks.{markOf, negatedAlone};
 
 // The axis of an entry.
 pub fn axis_of(e: u8) -> u8
@@ -70,13 +70,29 @@ pub fn is_high(orthant: u8, axis: u8) -> bool
     (orthant >> (axis - 1)) & 1 == 1
 }
 
+// The mask that is high on the entry's axis alone, where a byte has a bit for it: the bit at the axis, one place down, so that 0 has
+// none.
+fn mark_within(e: u8) -> u32
+    requires { ⌜ axis e ≤ 8 ⌝ }
+    ensures { λ r. ⌜ r ≡ markOf (axis e) ⌝ }
+{
+    (1 << words::wide(axis_of(e))) / 2
+}
+
+// That of an entry with a minus; 0 where it has none.
+fn minus_mark(e: u8) -> u32
+    requires { ⌜ axis e ≤ 8 ⌝ }
+    ensures { λ r. ⌜ r ≡ markOf (axis (negatedAlone e)) ⌝ }
+{
+    (words::wide(e >> 7) << words::wide(axis_of(e))) / 2
+}
+
 // The mask that is high on the entry's axis alone; 0 where a byte has no bit for it.
 pub fn mark_of(e: u8) -> u32
     ensures { λ r. ⌜ r ≡ markOf (axis e) ⌝ }
 {
-    let a = words::wide(axis_of(e));
-    if 8 < a {
+    if 8 < axis_of(e) {
         return 0;
     }
-    (1 << a) / 2
+    mark_within(e)
 }

@@ -2,7 +2,7 @@
 ghost use mathlib.Core.Path.{_≡_};
 ghost use Prim.Native.Nat.{_+_, _/_, _%_, _^_, _≤_, _<_};
 ghost use lib.ListN.{length, getD};
-ghost use Rattle.entries.specs.Words.{bytesOf, WordOf, WordAt, Puts};
+ghost use Rattle.entries.specs.Words.{bytesOf, FirstOf, WordOf, WordAt, Puts};
 
 pub fn wide(x: u8) -> u32
     ensures { λ r. ⌜ (r ≡ x) × (r < 256) ⌝ }
@@ -24,6 +24,15 @@ pub fn byte_at(w: u32, n: usize) -> u8
     ensures { λ r. ⌜ r ≡ getD (bytesOf w) n 0 ⌝ }
 {
     byte(w, 8 * (n as u32))
+}
+
+// Its first k bytes, with zeros behind them.
+pub fn first(w: u32, k: usize) -> u32
+    requires { ⌜ (1 ≤ k) × (k ≤ 4) ⌝ }
+    ensures { λ r. ⌜ FirstOf k (bytesOf w) (bytesOf r) ⌝ }
+{
+    let behind = 8 * (4 - k);
+    (w << behind) >> behind
 }
 
 // The word of four bytes.

@@ -1,5 +1,5 @@
 -- `code_body` meets its contract: each way out is one of the order of refusals.
-use Rattle.codes.specs.Heads.{ready-long, body-some, body-two, body-few, body-bits, body-mask, body-room, body-most, body-whole, body-behind, body-permutation, body-orthant, signs-some, signs-few, signs-room, signs-axes, body-sign, body-done}
+use Rattle.codes.specs.Heads.{ready-long, body-some, body-two, body-few, body-bits, body-mask, body-room, body-most, body-whole, body-behind, body-permutation, body-orthant, signs-some, signs-few, signs-axes, body-sign, body-done}
 use borrow.Author.Needs.{needs}
 use Rattle.codes.proofs.code_body.Statement.{statement}
 use Rattle.codes.proofs.code_body.Tie as tie
@@ -17,6 +17,6 @@ code-body-spec =
     (λ c. search (needs, body-orthant))
     (λ c κs. search (needs, body-some, body-whole))
     (λ c κs. search (needs, body-mask, body-room))
-    (λ c κs. search (needs, signs-some, signs-few, signs-room, signs-axes))
+    (λ c κs. search (needs, signs-some, signs-few, signs-axes))
     (λ c. search (needs, body-sign))
     (λ c. search (needs, body-done)))
