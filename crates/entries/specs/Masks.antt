@@ -111,9 +111,6 @@ mark-as {a} e l = ap (λ (y : ℕ). y / 2) (shifted-bit 32 a (omega arith)) ∙ 
         down : suc a - 1 ≡ a
         down = omega arith
 
-pub mark-past : {a x : ℕ} → a ≡ x → 8 < a → 0 ≡ markOf x
-mark-past {a} {x} e h = sym (mark-over x (omega arith))
-
 -- an entry with a minus; one that has none goes, and 0 stands in its place
 unfoldable pub negatedAlone : ℕ → ℕ
 negatedAlone e = cond (minus e) e 0

@@ -9,23 +9,20 @@ use native.Mathlib.Decide.{ℕ-discrete, decLt}
 use lib.Dec.{T, eqb}
 use lib.Bits.{bitAnd, and-lt}
 use lib.ListN.{length, getD, take, List·getD-map}
-use lib.Seq.{getD-take, length-take-le}
+use lib.Seq.{getD-take}
 use borrow.Author.Tests.{eq-eqb, ne-eqb}
 use Rattle.bisection.specs.Codes.{axis, minus, high}
 use Rattle.bisection.specs.Refusals.{permutes}
 use Rattle.bisection.specs.Theorems.Entries.{Signed, Stands}
 use Rattle.bisection.specs.Theorems.Orthants.{bits-same}
 use Rattle.bisection.specs.Theorems.Passing.{same-true, same-is}
-use Rattle.bisection.specs.Theorems.Checked.{each-at, at-each, permutes-signed}
+use Rattle.bisection.specs.Theorems.Checked.{each-at, at-each}
 use Rattle.entries.specs.Masks.{negatedAlone, axis-none, minus-alone, plus-alone, high-and}
-use Rattle.entries.specs.Marks.{MarksOf}
-use Rattle.entries.specs.Walks.{signTest, signsBy, permutes-take}
+use Rattle.entries.specs.Marks.{HaveBits, MarksOf, permuted-signed, permuted-few}
+use Rattle.entries.specs.Walks.{signTest, signsBy}
 use Rattle.entries.specs.Words.{NoneBehind, FirstOf}
 
--- a byte has a bit for every axis
-pub record HaveBits (es : List ℕ) : Type 0 where
-  pub few : (i : ℕ) → axis (getD es i 0) ≤ 8
-
+-- a byte has a bit for every axis of the first k
 pub first-bits : {k : ℕ} {es fs : List ℕ} → FirstOf k es fs → HaveBits es → HaveBits fs
 first-bits {k} {es} {fs} f b = record { few = λ i. go i (decLt i k) }
   where
@@ -42,20 +39,16 @@ pub record AxesWithin (k : ℕ) (es : List ℕ) : Type 0 where
 -- those of a permutation, with zeros behind
 pub permuted-axes : {n k : ℕ} {es : List ℕ} → permutes n es ≡ true → NoneBehind n es → n ≤ length es → n ≤ 8 → k ≤ n → AxesWithin k es
 permuted-axes {n} {k} {es} p behind room few l = record {
-  bits = record { few = λ i. go i (decLt i n) };
+  bits = record { few = λ i. omega (arith, permuted-few p behind room i) };
   low = λ i h. subst (λ (e : ℕ). 1 ≤ axis e) (at i (omega arith)) (s .low i (omega arith));
   apart = λ i j h m e. s .apart i j (omega arith) (omega arith) (ap axis (at i (omega arith)) ∙ e ∙ ap axis (sym (at j (omega arith))));
 }
   where
     s : Signed n (take n es)
-    s = permutes-signed n (take n es) (length-take-le n es room) (permutes-take n es ∙ p)
+    s = permuted-signed es p room
 
     at : (i : ℕ) → i < n → getD (take n es) i 0 ≡ getD es i 0
     at i h = getD-take n es i 0 h
-
-    go : (i : ℕ) → Dec (i < n) → axis (getD es i 0) ≤ 8
-    go i (yes h) = omega (arith, s .high i h, ap axis (at i h))
-    go i (no h) = omega (arith, ap axis (behind .none i (omega arith)), axis-none)
 
 -- the negated entries alone
 alone-at : (es : List ℕ) (i : ℕ) → getD (map negatedAlone es) i 0 ≡ negatedAlone (getD es i 0)
@@ -81,7 +74,7 @@ module _ {k axes negated : ℕ} {es fs : List ℕ} (few : k ≤ 4) (within : Axe
 
   axes-high : (i : ℕ) → i < k → high axes (axis (getD es i 0)) ≡ true
   axes-high i h = subst (λ (e : ℕ). high axes (axis e) ≡ true) (first .kept i h)
-      (m .marks i (omega arith) (omega arith) (subst (λ (e : ℕ). 1 ≤ axis e) (sym (first .kept i h)) (within .low i h)) (first-bits first (within .bits) .few i))
+      (m .marks i (omega arith) (subst (λ (e : ℕ). 1 ≤ axis e) (sym (first .kept i h)) (within .low i h)) (first-bits first (within .bits) .few i))
 
   -- what is negated is the axis of a first entry with a minus
   record Negated (a : ℕ) : Type 0 where
@@ -123,7 +116,7 @@ module _ {k axes negated : ℕ} {es fs : List ℕ} (few : k ≤ 4) (within : Axe
 
       go : (t : Bool) → minus (getD es i 0) ≡ t → high negated (axis (getD es i 0)) ≡ t
       go true q = subst (λ (e : ℕ). high negated (axis e) ≡ true) (entry q)
-          (n .marks i (omega arith) (omega arith) (subst (λ (e : ℕ). 1 ≤ axis e) (sym (entry q)) (within .low i h)) (subst (λ (e : ℕ). axis e ≤ 8) (sym (entry q)) (within .bits .few i)))
+          (n .marks i (omega arith) (subst (λ (e : ℕ). 1 ≤ axis e) (sym (entry q)) (within .low i h)) (subst (λ (e : ℕ). axis e ≤ 8) (sym (entry q)) (within .bits .few i)))
       go false q = low (high negated (axis (getD es i 0))) refl q
 
   signs-masked : {own : ℕ} → own < 2 ^ 8 → eqb (bitAnd axes own) negated ≡ signsBy k es own

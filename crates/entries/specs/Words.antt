@@ -40,6 +40,23 @@ pub word-sum : (a b c e : ℕ) {p q r s : ℕ} → p ≡ a → q ≡ b → r ≡
 unfolding wordOf
 word-sum a b c e f g h k = omega arith
 
+-- a word is the sum of its bytes
+pub bytes-sum : (y : ℕ) {p q r s : ℕ} → y < 2 ^ 32 → y / 2 ^ 0 % 256 ≡ p → y / 2 ^ 8 % 256 ≡ q → y / 2 ^ 16 % 256 ≡ r → y / 2 ^ 24 % 256 ≡ s
+    → y ≡ p + 256 * q + 65536 * r + 16777216 * s
+bytes-sum y {p} {q} {r} {s} h e f g k = omega (arith, low, second, third, top)
+  where
+    low : y ≡ p + 256 * (y / 2 ^ 8)
+    low = omega (arith, e)
+
+    second : y / 2 ^ 8 ≡ q + 256 * (y / 2 ^ 16)
+    second = omega (arith, f)
+
+    third : y / 2 ^ 16 ≡ r + 256 * (y / 2 ^ 24)
+    third = omega (arith, g)
+
+    top : y / 2 ^ 24 ≡ s
+    top = omega (arith, k, h)
+
 -- the word of four bytes
 pub record WordOf (a b c e w : ℕ) : Type 0 where
   pub is : w ≡ wordOf (a ∷ b ∷ c ∷ e ∷ [])

@@ -11,8 +11,8 @@ ghost use Rattle.bisection.specs.Codes.{axis, minus, high, dimensionOf, depthOf
 ghost use Rattle.bisection.specs.Refusals.{done, codeRefusal, permutes, orthantsFit, sameSign, isRoot, isPath};
 ghost use Rattle.entries.specs.Fitting.{OrthantsFrom};
 ghost use Rattle.entries.specs.Masks.{negatedAlone};
-ghost use Rattle.entries.specs.Marks.{MarksOf};
-ghost use Rattle.entries.specs.SignMasks.{HaveBits, AxesWithin};
+ghost use Rattle.entries.specs.Marks.{HaveBits, MarksOf};
+ghost use Rattle.entries.specs.SignMasks.{AxesWithin};
 ghost use Rattle.entries.specs.Words.{bytesOf, NoneBehind};
 ghost use Rattle.entries.specs.Walks.{ownByte, signsBy};
 use crate::words;
@@ -62,19 +62,30 @@ pub fn place_in(i: usize, n: usize) -> usize
     0
 }
 
+// The axes of a word's four entries, as one mask.
+fn axes_in(entries: u32) -> u32
+    requires { ⌜ HaveBits (bytesOf entries) ⌝ }
+    ensures { λ r. ⌜ MarksOf (bytesOf entries) r ⌝ }
+{
+    crate::mark_of(words::byte(entries, 0))
+        | crate::mark_of(words::byte(entries, 8))
+        | crate::mark_of(words::byte(entries, 16))
+        | crate::mark_of(words::byte(entries, 24))
+}
+
+// The bits of four entries that are 0 where no axis is above 7.
+const PAST_SEVEN: u32 = 0x7878_7878;
+
 // The d entries of a word have the axes 1..d, none repeated: d entries whose marks are those of 1..d have each axis just once. What
 // stands behind them is 0, which has no mark.
 pub fn permuted(entries: u32, d: usize) -> bool
     requires { ⌜ (1 ≤ d) × (d ≤ 4) × NoneBehind d (bytesOf entries) ⌝ }
     ensures { λ r. ⌜ r ≡ permutes d (bytesOf entries) ⌝ }
 {
-    let mut seen: u32 = 0;
-    let mut i: usize = 0;
-    while i < Dim::MOST_AXES {
-        seen = seen | crate::mark_of(words::byte_at(entries, i));
-        i += 1;
+    if entries & PAST_SEVEN != 0 {
+        return false;
     }
-    seen == (1 << d) - 1
+    axes_in(entries) == (1 << d) - 1
 }
 
 // The lower of two numbers.
@@ -141,26 +152,15 @@ pub fn same_sign(e: u8, own: u8) -> bool
     (own >> (crate::axis_of(e) - 1)) & 1 == e >> 7
 }
 
-// The axes of a word's four entries, as one mask.
-fn axes_in(entries: u32) -> u32
-    requires { ⌜ HaveBits (bytesOf entries) ⌝ }
-    ensures { λ r. ⌜ MarksOf (bytesOf entries) r ⌝ }
-{
-    crate::mark_within(words::byte(entries, 0))
-        | crate::mark_within(words::byte(entries, 8))
-        | crate::mark_within(words::byte(entries, 16))
-        | crate::mark_within(words::byte(entries, 24))
-}
-
 // The negated ones among them, as another.
 fn negated_in(entries: u32) -> u32
     requires { ⌜ HaveBits (bytesOf entries) ⌝ }
     ensures { λ r. ⌜ MarksOf (map negatedAlone (bytesOf entries)) r ⌝ }
 {
-    crate::minus_mark(words::byte(entries, 0))
-        | crate::minus_mark(words::byte(entries, 8))
-        | crate::minus_mark(words::byte(entries, 16))
-        | crate::minus_mark(words::byte(entries, 24))
+    crate::minus_mark_of(words::byte(entries, 0))
+        | crate::minus_mark_of(words::byte(entries, 8))
+        | crate::minus_mark_of(words::byte(entries, 16))
+        | crate::minus_mark_of(words::byte(entries, 24))
 }
 
 // The first k entries carry the own sign that the orthant byte gives: of their axes, it is high on the negated ones and on no other.

@@ -70,9 +70,8 @@ pub fn is_high(orthant: u8, axis: u8) -> bool
     (orthant >> (axis - 1)) & 1 == 1
 }
 
-// The mask that is high on the entry's axis alone, where a byte has a bit for it: the bit at the axis, one place down, so that 0 has
-// none.
-fn mark_within(e: u8) -> u32
+// The mask that is high on the entry's axis alone: the bit at the axis, one place down, so that 0 has none.
+fn mark_of(e: u8) -> u32
     requires { ⌜ axis e ≤ 8 ⌝ }
     ensures { λ r. ⌜ r ≡ markOf (axis e) ⌝ }
 {
@@ -80,19 +79,9 @@ fn mark_within(e: u8) -> u32
 }
 
 // That of an entry with a minus; 0 where it has none.
-fn minus_mark(e: u8) -> u32
+fn minus_mark_of(e: u8) -> u32
     requires { ⌜ axis e ≤ 8 ⌝ }
     ensures { λ r. ⌜ r ≡ markOf (axis (negatedAlone e)) ⌝ }
 {
     (words::wide(e >> 7) << words::wide(axis_of(e))) / 2
-}
-
-// The mask that is high on the entry's axis alone; 0 where a byte has no bit for it.
-pub fn mark_of(e: u8) -> u32
-    ensures { λ r. ⌜ r ≡ markOf (axis e) ⌝ }
-{
-    if 8 < axis_of(e) {
-        return 0;
-    }
-    mark_within(e)
 }

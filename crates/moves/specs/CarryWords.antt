@@ -18,7 +18,7 @@ use Rattle.bisection.specs.Theorems.Checked.{each-at}
 use Rattle.bisection.specs.Theorems.Table.{flipped}
 use Rattle.bisection.specs.Theorems.Crossing.Flips.{Parts, parts, digit}
 use Rattle.entries.specs.Masks.{shifted-bit}
-use Rattle.entries.specs.Words.{bytesOf, byte-at, and-byte, xor-byte, WordAt, word-byte, Puts}
+use Rattle.entries.specs.Words.{bytesOf, byte-at, and-byte, xor-byte, WordAt, word-byte, Puts, bytes-sum}
 use Rattle.moves.specs.Carrying.{passes, Running, Ends, Flips}
 
 -- the lowest bit of each byte
@@ -33,23 +33,6 @@ stops up a w m = cond (passes up a (getD (bytesOf w) m 0)) 0 1
 
 pub record Stopping (up : Bool) (a w r : ℕ) : Type 0 where
   pub is : r ≡ stops up a w 0 + 256 * stops up a w 1 + 65536 * stops up a w 2 + 16777216 * stops up a w 3
-
--- a word is the sum of its bytes
-bytes-sum : (y : ℕ) {p q r s : ℕ} → y < 2 ^ 32 → y / 2 ^ 0 % 256 ≡ p → y / 2 ^ 8 % 256 ≡ q → y / 2 ^ 16 % 256 ≡ r → y / 2 ^ 24 % 256 ≡ s
-    → y ≡ p + 256 * q + 65536 * r + 16777216 * s
-bytes-sum y {p} {q} {r} {s} h e f g k = omega (arith, low, second, third, top)
-  where
-    low : y ≡ p + 256 * (y / 2 ^ 8)
-    low = omega (arith, e)
-
-    second : y / 2 ^ 8 ≡ q + 256 * (y / 2 ^ 16)
-    second = omega (arith, f)
-
-    third : y / 2 ^ 16 ≡ r + 256 * (y / 2 ^ 24)
-    third = omega (arith, g)
-
-    top : y / 2 ^ 24 ≡ s
-    top = omega (arith, k, h)
 
 -- the bit at place a of byte m
 abbrev bit : ℕ → ℕ → ℕ → ℕ
