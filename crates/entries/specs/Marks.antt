@@ -22,7 +22,7 @@ use Rattle.bisection.specs.Theorems.Passing.{same-true}
 use Rattle.bisection.specs.Theorems.Checked.{each-at, permutes-signed, signed-permutes}
 use Rattle.entries.specs.Masks.{markOf, negatedAlone, axis-none, marked-high, marked-byte, high-none, shifted-bit}
 use Rattle.entries.specs.Walks.{permutes-take}
-use Rattle.entries.specs.Words.{bytesOf, bytes-sum, NoneBehind, byte-at, and-byte}
+use Rattle.entries.specs.Words.{bytesOf, bytes-sum, NoneBehind, FirstOf, byte-at, and-byte}
 
 -- where every axis stands among d entries, each stands at one place
 module _ (d : ℕ) (es : List ℕ) (size : length es ≡ d) (all : (a : ℕ) → 1 ≤ a → a ≤ d → Stands es a d) where
@@ -180,6 +180,14 @@ module _ (w : ℕ) where
       none : (i : ℕ) → i < 4 → getD (bytesOf (bitAnd w pastSeven)) i 0 ≡ 0
       none i l = past-byte i l ∙ byte-past (getD (bytesOf w) i 0) (small i l) .1 (h i l)
 
+-- where zeros stand behind the first k, what has an axis is one of the k
+pub first-at : {k : ℕ} {es fs : List ℕ} → FirstOf k es fs → (a j : ℕ) → 1 ≤ a → axis (getD fs j 0) ≡ a → (j < k) × (axis (getD es j 0) ≡ a)
+first-at {k} {es} first a j l q = go (decLt j k)
+  where
+    go : Dec (j < k) → (j < k) × (axis (getD es j 0) ≡ a)
+    go (yes h) = (h, ap axis (sym (first .kept j h)) ∙ q)
+    go (no h) = absurd (omega (arith, ap axis (first .none j (omega arith)), axis-none))
+
 -- entries with zeros behind them
 module _ {d : ℕ} {es : List ℕ} (long : length es ≡ 4) (few : d ≤ 4) (behind : NoneBehind d es) where
   size : length (take d es) ≡ d
@@ -188,13 +196,14 @@ module _ {d : ℕ} {es : List ℕ} (long : length es ≡ 4) (few : d ≤ 4) (beh
   kept : (i : ℕ) → i < d → getD (take d es) i 0 ≡ getD es i 0
   kept i h = getD-take d es i 0 h
 
-  -- what has an axis is one of the d
+  front : FirstOf d (take d es) es
+  front = record { kept = λ i h. sym (kept i h); none = behind .none }
+
   one-of : {a : ℕ} → 1 ≤ a → Stands es a 4 → Stands (take d es) a d
-  one-of {a} l t = go (decLt (t .place) d)
+  one-of {a} l t = record { place = t .place; below = at .0; is = at .1 }
     where
-      go : Dec (t .place < d) → Stands (take d es) a d
-      go (yes h) = record { place = t .place; below = h; is = ap axis (kept (t .place) h) ∙ t .is }
-      go (no h) = absurd (omega (arith, t .is, ap axis (behind .none (t .place) (omega arith)), axis-none))
+      at : (t .place < d) × (axis (getD (take d es) (t .place) 0) ≡ a)
+      at = first-at front a (t .place) l (t .is)
 
   module _ {seen : ℕ} (m : MarksOf es seen) where
     high-of : Signed d (take d es) → (a : ℕ) → 1 ≤ a → a ≤ 8 → Dec (a ≤ d) → high seen a ≡ leb a d

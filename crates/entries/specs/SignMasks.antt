@@ -18,7 +18,7 @@ use Rattle.bisection.specs.Theorems.Orthants.{bits-same}
 use Rattle.bisection.specs.Theorems.Passing.{same-true, same-is}
 use Rattle.bisection.specs.Theorems.Checked.{each-at, at-each}
 use Rattle.entries.specs.Masks.{negatedAlone, axis-none, minus-alone, plus-alone, high-and}
-use Rattle.entries.specs.Marks.{HaveBits, MarksOf, permuted-signed, permuted-few}
+use Rattle.entries.specs.Marks.{HaveBits, MarksOf, first-at, permuted-signed, permuted-few}
 use Rattle.entries.specs.Walks.{signTest, signsBy}
 use Rattle.entries.specs.Words.{NoneBehind, FirstOf}
 
@@ -64,14 +64,6 @@ alone-minus e h = go (minus e) refl
     go false q = absurd (omega (arith, ap axis (plus-alone e q), axis-none))
 
 module _ {k axes negated : ℕ} {es fs : List ℕ} (few : k ≤ 4) (within : AxesWithin k es) (first : FirstOf k es fs) (m : MarksOf fs axes) (n : MarksOf (map negatedAlone fs) negated) where
-  -- what has an axis is one of the k
-  one-of : (a j : ℕ) → 1 ≤ a → axis (getD fs j 0) ≡ a → (j < k) × (axis (getD es j 0) ≡ a)
-  one-of a j l q = go (decLt j k)
-    where
-      go : Dec (j < k) → (j < k) × (axis (getD es j 0) ≡ a)
-      go (yes h) = (h, ap axis (sym (first .kept j h)) ∙ q)
-      go (no h) = absurd (omega (arith, ap axis (first .none j (omega arith)), axis-none))
-
   axes-high : (i : ℕ) → i < k → high axes (axis (getD es i 0)) ≡ true
   axes-high i h = subst (λ (e : ℕ). high axes (axis e) ≡ true) (first .kept i h)
       (m .marks i (omega arith) (subst (λ (e : ℕ). 1 ≤ axis e) (sym (first .kept i h)) (within .low i h)) (first-bits first (within .bits) .few i))
@@ -99,7 +91,7 @@ module _ {k axes negated : ℕ} {es fs : List ℕ} (few : k ≤ 4) (within : Axe
       alone = alone-minus (getD fs j 0) (omega (arith, is))
 
       kept : (j < k) × (axis (getD es j 0) ≡ a)
-      kept = one-of a j l (sym (alone .1) ∙ is)
+      kept = first-at first a j l (sym (alone .1) ∙ is)
 
   negated-high : (i : ℕ) → i < k → high negated (axis (getD es i 0)) ≡ minus (getD es i 0)
   negated-high i h = go (minus (getD es i 0)) refl
@@ -134,7 +126,7 @@ module _ {k axes negated : ℕ} {es fs : List ℕ} (few : k ≤ 4) (within : Axe
           t = m .from a l u h
 
           kept : (t .place < k) × (axis (getD es (t .place) 0) ≡ a)
-          kept = one-of a (t .place) l (t .is)
+          kept = first-at first a (t .place) l (t .is)
       bits e a l u false h = high-and axes own a ∙ rw h (sym (none (high negated a) refl))
         where
           none : (t : Bool) → high negated a ≡ t → t ≡ false
