@@ -505,6 +505,7 @@ static void try_child(void)
     child(P1, 0, AMPLE, RMK_DONE, P7);
     child(P1, 1, AMPLE, RMK_DONE, P2);
     child(P7, 1, AMPLE, RMK_DONE, P3);
+    child(P2, 0, AMPLE, RMK_DONE, P8_ACROSS_1); /* across facet 1 of P3: the number changed */
     child(P3, 0, AMPLE, RMK_DONE, P4_PARENT);
     child(P4_PARENT, 1, AMPLE, RMK_DONE, P4);
     child(ROOT_3, 1, AMPLE, RMK_DONE, P5);

@@ -35,3 +35,7 @@ pub mod Table
 pub mod Crossing
 -- The crossing theorem: the cell across a facet is the one of the table, and there is no other.
 pub mod Neighbour
+-- Weights of points in cells and facets.
+pub mod Weights
+-- Crossing and splitting agree: a child's facets, inside the cell's and between the two children.
+pub mod Splitting

@@ -2,13 +2,12 @@
 -- input are equal, the answer and every lent cell.
 use mathlib.Core.Path.{_≡_, refl, sym, ap, _∙_}
 use mathlib.Core.List.{List, [], _∷_, _++_}
-use Prim.Native.Nat.{ℕ, _+_, _-_}
-use native.Mathlib.Omega.{arith}
+use Prim.Native.Nat.{ℕ}
 use native.Mathlib.Decide.{ℕ-discrete}
-use lib.ListN.{length, drop, length-append}
-use lib.Seq.{take-at}
+use lib.ListN.{length, drop}
 use Rattle.bisection.specs.Refusals.{codeRefusal}
 use Rattle.bisection.specs.Theorems.CodePaths.{one-path}
+use Rattle.bisection.specs.Theorems.CellChildren.{shorter}
 use Rattle.codes.specs.declared.Written.{Written}
 use Rattle.codes.specs.declared.PathWritten.{PathWritten}
 use Rattle.codes.specs.Outcomes.{Writes, Answers, PathToCode, toPathRefusal, PathOf, CodeToPath, VerticesOf, Vertices, ChildOf, Child, ParentOf, Parent}
@@ -57,13 +56,6 @@ child-one which code a a' v v' = v .is ∙ rw (p .0, p .1) refl ∙ sym (v' .is)
 
 pub child-determined : (code : List ℕ) (which : ℕ) {before after after' : List ℕ} {r r' : Written} → Child code which before r after → Child code which before r' after' → (r ≡ r') × (after ≡ after')
 child-determined code which = answers-determined (child-one which code)
-
--- a path is known by the path with one step more
-shorter : (p q : List ℕ) (x y : ℕ) → p ++ x ∷ [] ≡ q ++ y ∷ [] → p ≡ q
-shorter p q x y e = sym (take-at p (x ∷ []) (length p) refl) ∙ ap (lib.ListN.take (length p)) e ∙ ap (λ (n : ℕ). lib.ListN.take n (q ++ y ∷ [])) size ∙ take-at q (y ∷ []) (length q) refl
-  where
-    size : length p ≡ length q
-    size = omega (arith, simp length-append at (ap length e))
 
 parent-one : (code a a' : List ℕ) → ParentOf code a → ParentOf code a' → a ≡ a'
 parent-one code a a' v v' = v .is ∙ rw (p .0, shorter (v .path) (v' .path) (v .last) (v' .last) (p .1)) refl ∙ sym (v' .is)

@@ -9,6 +9,12 @@ pub mod Determined
 pub mod One
 pub mod Two
 pub mod Three
+-- Request No. 5: crossing and splitting agree.
+pub mod Agree
+-- The same of the entries' contracts, for programs that keep children of neighbours.
+pub mod Caching
+-- A child's facets: the one that it shares with its sibling, and those inside the cell's.
+pub mod ChildFacets
 -- Programs that do nothing, and that none meets its contract.
 pub mod Idle
 pub mod Theorems

@@ -7,7 +7,7 @@ use native.Mathlib.Omega.{arith}
 use Rattle.dimension.specs.Sizes.{isDimension, halvings, cubeSide, sideAfter, boxSide, boxDepth, splitPlace, level}
 use Rattle.bisection.specs.Cells.{Point, coordinate, cellOf, cellBelow, rootCell, corners, moved, child, midpoint}
 use Rattle.bisection.specs.Roots.{roots, arrangements, joined, picks, axesFrom}
-use Rattle.points.specs.Weights.{sumTo, total, weighted, Weighs}
+use Rattle.bisection.specs.Weights.{sumTo, total, weighted, Weighs}
 use Rattle.queries.specs.Queries.{cellIn, LeafAt, LeafWeights}
 use Rattle.demands.specs.TwoLeaves.{two-leaves}
 

@@ -3,5 +3,8 @@ pub mod Numbers
 pub mod One
 pub mod Two
 pub mod Three
+pub mod Agree
+pub mod Caching
+pub mod ChildFacets
 pub mod Cracked
 pub mod Idle

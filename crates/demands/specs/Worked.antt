@@ -1,4 +1,4 @@
--- Document 01, "Cells worked by hand": the proved set, as rows of one table under one claim.
+-- Document 01, "Cells worked by hand": the proved set, and a case of request No. 5, as rows of one table under one claim.
 use mathlib.Core.Path.{refl}
 use mathlib.Core.List.{List, [], _∷_}
 use lib.ListN.{replicate}
@@ -16,7 +16,7 @@ use Rattle.listing.specs.Texts.{digit, spelled, decimal, hex, numberLine, leafL
 use Rattle.listing.specs.Texts.{good as good-listing}
 use Rattle.demands.specs.TwoLeaves.{twoLeaves, twoLeavesText, oneLeaf, two-leaves, one-leaf-listed, too-large-listed}
 use Rattle.demands.specs.Rows.{Row, path-to-code, vertices, code-check, child-at, cross, walled, sheet-check, listing, leaf-at, value-at, Every}
-use Rattle.points.specs.Weights.{sumTo}
+use Rattle.bisection.specs.Weights.{sumTo}
 use Rattle.points.specs.Points.{pointOf, isPoint}
 use Rattle.greys.specs.Samples.{greySum, sampleAt, lowFirst}
 use Rattle.sheets.specs.Sheets.{samplesOf}
@@ -50,6 +50,9 @@ table =
     cross (0x02 ∷ 0x02 ∷ 0x81 ∷ 0x02 ∷ 0x01 ∷ []) 0 (0x02 ∷ 0x02 ∷ 0x01 ∷ 0x02 ∷ 0x00 ∷ []) 0 ∷
     cross (0x02 ∷ 0x02 ∷ 0x81 ∷ 0x02 ∷ 0x01 ∷ []) 1 (0x02 ∷ 0x02 ∷ 0x02 ∷ 0x81 ∷ 0x01 ∷ []) 1 ∷
     walled (0x02 ∷ 0x02 ∷ 0x81 ∷ 0x02 ∷ 0x01 ∷ []) 2 ∷
+    -- request No. 5, where a child's number changes: P3 is child 1 of P7's first cell, and what lies across its facet 1 (P8) is child 0 of P2
+    child-at (0x02 ∷ 0x01 ∷ 0x01 ∷ 0x02 ∷ []) 1 (0x02 ∷ 0x02 ∷ 0x81 ∷ 0x02 ∷ 0x01 ∷ []) ∷
+    child-at (0x02 ∷ 0x01 ∷ 0x02 ∷ 0x81 ∷ []) 0 (0x02 ∷ 0x02 ∷ 0x02 ∷ 0x81 ∷ 0x01 ∷ []) ∷
     -- P9
     code-check (0x02 ∷ 0x01 ∷ 0x81 ∷ 0x02 ∷ []) refusedSign ∷
     code-check (0x02 ∷ 0x00 ∷ 0x01 ∷ 0x82 ∷ []) refusedSign ∷
@@ -95,6 +98,8 @@ worked = every table (
     and record { passes = refl; facet = refl; free = refl; is = refl; at = refl }
     and record { passes = refl; facet = refl; free = refl; is = refl; at = refl }
     and record { passes = refl; facet = refl; blocked = refl }
+    and record { passes = refl; step = refl; deeper = refl; is = refl }
+    and record { passes = refl; step = refl; deeper = refl; is = refl }
     and refl
     and refl
     and refl

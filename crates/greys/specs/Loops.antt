@@ -7,7 +7,7 @@ use native.Mathlib.Numerals.{add-one}
 use native.Mathlib.Nat.{mul-le-mul-left, mul-le-mul-right, pow-succ', pow-le-pow-right}
 use lib.ListN.{length, getD, take, drop}
 use lib.Seq.{drop-cons}
-use Rattle.points.specs.Weights.{sumTo}
+use Rattle.bisection.specs.Weights.{sumTo}
 use Rattle.greys.specs.Samples.{lowFirst, sampleAt, greySum, Weighable}
 use Rattle.greys.specs.Sums.{sum-rises, total-front, grey-front}
 

@@ -3,7 +3,7 @@
 use mathlib.Core.List.{List, [], _∷_}
 use Prim.Native.Nat.{ℕ, suc, _+_, _*_, _^_, _≤_}
 use lib.ListN.{length, getD, take, drop}
-use Rattle.points.specs.Weights.{sumTo, total}
+use Rattle.bisection.specs.Weights.{sumTo, total}
 
 -- the number that bytes give, low byte first
 unfoldable pub lowFirst : List ℕ → ℕ

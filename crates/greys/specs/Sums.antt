@@ -10,7 +10,7 @@ use lib.Seq.{length-take-le, getD-take}
 use lib.Ieee.{Float}
 use Rattle.dimension.specs.Sizes.{halvings, cubeSide}
 use Rattle.dimension.specs.Laws.{halvings-few}
-use Rattle.points.specs.Weights.{sumTo, total}
+use Rattle.bisection.specs.Weights.{sumTo, total}
 use Rattle.greys.specs.Fractions.{Fraction}
 use Rattle.greys.specs.Samples.{sampleAt, greySum, Weighable}
 use Rattle.greys.specs.Exact.{fraction-same}

@@ -1,25 +1,17 @@
 -- The weights in closed form: with t i the distance from vertex 0 to the point along entry i, and t d = 0,
 -- w0 = s - t 0 - t k; wj = t (j - 1) - t j for j from 1 to k; wj = 2 (t (j - 1) - t j) for j past k.
-use mathlib.Core.Path.{_≡_}
 use mathlib.Core.Bool.{Bool, true, false, cond}
-use mathlib.Core.List.{List, [], _∷_}
+use mathlib.Core.List.{List}
 use Prim.Native.Nat.{ℕ, zero, suc, _+_, _-_, _*_, _≤_, _<_}
 use lib.Dec.{leb, ltb}
 use lib.ListN.{length, getD}
 use Rattle.dimension.specs.Sizes.{splitPlace, boxSide}
 use Rattle.bisection.specs.Cells.{Point, coordinate, vertex, cellOf}
 use Rattle.bisection.specs.Codes.{axis, minus, nameOf}
+use Rattle.bisection.specs.Theorems.Geometry.{Moves}
+use Rattle.bisection.specs.Theorems.Weights.Axes.{listOf}
 
--- a function as the list of its values
-unfoldable pub listOf : ℕ → (ℕ → ℕ) → List ℕ
-listOf zero f = []
-listOf (suc n) f = f 0 ∷ listOf n (λ j. f (suc j))
-
--- x lies t away from the start, up for a plus and down for a minus; and how far it does
-abbrev pub Away : Bool → ℕ → ℕ → ℕ → Type 0
-Away false start t x = x ≡ start + t
-Away true start t x = start ≡ x + t
-
+-- how far x lies from the start, up for a plus and down for a minus
 abbrev pub gap : Bool → ℕ → ℕ → ℕ
 gap false start x = x - start
 gap true start x = start - x
@@ -46,6 +38,6 @@ closedWeights root path p = listOf (suc (length root)) (weightAt (splitPlace (le
 
 -- none of the differences in the closed form is negative
 pub record Natural (root path : List ℕ) (p : Point) : Type 0 where
-  pub ahead : (i : ℕ) → i < length root → Away (minus (entryOf root path i)) (startAt root path i) (distance root path p i) (pointAt root path p i)
+  pub ahead : (i : ℕ) → i < length root → Moves (minus (entryOf root path i)) (distance root path p i) (startAt root path i) (pointAt root path p i)
   pub first : distance root path p 0 + distance root path p (splitPlace (length root) (length path)) ≤ boxSide (length root) (length path)
   pub falls : (j : ℕ) → j < length root → distance root path p (suc j) ≤ distance root path p j

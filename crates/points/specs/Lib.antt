@@ -1,6 +1,4 @@
--- Points in cells. A reader must believe Weights, Points and Roots; the rest is checked.
--- A point in a closed cell, and its weights.
-pub mod Weights
+-- Points in cells, by bisection's Weights. A reader must believe Points and Roots; the rest is checked.
 -- The points of a query.
 pub mod Points
 -- The first root that contains a point.

@@ -3,7 +3,7 @@ use mathlib.Core.List.{List, []}
 use Prim.Native.Nat.{ℕ, _<_}
 use lib.ListN.{length, getD}
 use Rattle.bisection.specs.Cells.{Point, cellOf}
-use Rattle.points.specs.Weights.{Inside}
+use Rattle.bisection.specs.Weights.{Inside}
 
 -- root number n of a list is the first whose closed cell contains the point
 pub record FirstRoot (roots : List (List ℕ)) (p : Point) (n : ℕ) : Type 0 where

@@ -1,8 +1,6 @@
 -- What is proved of the definitions.
--- Sums of weights.
+-- Sums of weights that moved.
 pub mod Sums
--- Weights as a function of the place, one axis at a time.
-pub mod Axes
 -- The weights in a cell and those in its halves.
 pub mod Halving
 -- The weights in a root.

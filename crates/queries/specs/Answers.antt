@@ -17,8 +17,10 @@ use Rattle.dimension.specs.Sizes.{isDimension, axesOf, cubeSide, boxSide, boxDe
 use Rattle.dimension.specs.Laws.{side-whole, side-of, box-in, dimension, cube-two-bytes, halvings-few}
 use Rattle.bisection.specs.Cells.{Point, pointBytes}
 use Rattle.bisection.specs.Refusals.{done, need, own, firstRefusal, refusedShort}
+use Rattle.bisection.specs.Weights.{Weighs}
 use Rattle.bisection.specs.Theorems.CodePaths.{some-axes}
 use Rattle.bisection.specs.Theorems.Ladders.{first-is, holds, fails, all-hold}
+use Rattle.bisection.specs.Theorems.Weights.Axes.{weight-most}
 use Rattle.sheets.specs.declared.SheetAnswer.{SheetAnswer}
 use Rattle.sheets.specs.declared.Edition.{Edition}
 use Rattle.sheets.specs.declared.RecordParts.{RecordParts}
@@ -27,9 +29,7 @@ use Rattle.sheets.specs.Sheets.{SheetIs, good, record-refused, not-next, ended-
 use Rattle.sheets.specs.Steps.{markOf, IsFirst, PartsAre}
 use Rattle.sheets.specs.Theorems.FirstRecord.{first-record}
 use Rattle.sheets.specs.Theorems.Listing.{GoodCell}
-use Rattle.points.specs.Weights.{Weighs}
 use Rattle.points.specs.Points.{pointOf, isPoint, refusedPoint}
-use Rattle.points.specs.Theorems.Axes.{weight-most}
 use Rattle.points.specs.Theorems.Cells.{weights-scaled}
 use Rattle.points.specs.Theorems.BoxWeights.{BoxWeights, box-weights}
 use Rattle.points.specs.Theorems.CubePoints.{point-in-cube}

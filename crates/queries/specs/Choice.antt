@@ -9,10 +9,10 @@ use lib.ListN.{length, getD, take, drop, length-append}
 use Rattle.dimension.specs.Sizes.{isDimension, cubeSide, greatestDepth, codeLength}
 use Rattle.bisection.specs.Cells.{Point, cellOf}
 use Rattle.bisection.specs.Roots.{GoodRoot, roots}
+use Rattle.bisection.specs.Weights.{Weighs}
 use Rattle.sheets.specs.Forests.{TreeCell, Leaves}
 use Rattle.sheets.specs.Sheets.{samplesOf, GoodSheet, leafIn}
 use Rattle.sheets.specs.Theorems.Listing.{GoodCell}
-use Rattle.points.specs.Weights.{Weighs}
 use Rattle.points.specs.Points.{pointOf, isPoint}
 use Rattle.points.specs.Theorems.CubePoints.{point-in-cube}
 use Rattle.ways.specs.Ways.{Way, CellWeights, Reached, Begun, Descended, LocatedIs}

@@ -11,9 +11,9 @@ use lib.Ieee.{Float}
 use Rattle.dimension.specs.Sizes.{boxSide}
 use Rattle.bisection.specs.Cells.{Point, Cell, cellOf, pointBytes}
 use Rattle.bisection.specs.Refusals.{done, refusedShort, need, firstRefusal}
+use Rattle.bisection.specs.Weights.{Weighs, Inside}
 use Rattle.sheets.specs.Forests.{TreeCell}
 use Rattle.sheets.specs.Sheets.{sampleWidth, leafIn, samplesOf, Good, Query}
-use Rattle.points.specs.Weights.{Weighs, Inside}
 use Rattle.points.specs.Points.{pointOf, isPoint, refusedPoint}
 use Rattle.greys.specs.Fractions.{Fraction}
 use Rattle.greys.specs.Samples.{greySum}

@@ -12,10 +12,10 @@ use Rattle.dimension.specs.Sizes.{cubeSide, greatestDepth, splitPlace}
 use Rattle.dimension.specs.Laws.{Dimension, dimension, depth-small, split-range}
 use Rattle.bisection.specs.Cells.{Point, cellOf}
 use Rattle.bisection.specs.Roots.{roots}
+use Rattle.bisection.specs.Weights.{Inside}
+use Rattle.bisection.specs.Theorems.Weights.Axes.{weight-most}
 use Rattle.positions.specs.Positions.{startOf}
-use Rattle.points.specs.Weights.{Inside}
 use Rattle.points.specs.Roots.{FirstRoot}
-use Rattle.points.specs.Theorems.Axes.{weight-most}
 use Rattle.points.specs.Theorems.Halving.{Fits, down, low-down-first, low-down-last, low-down-other, high-down-before, high-down-rest, high-down-last, high-down-past}
 use Rattle.points.specs.Theorems.RootCells.{side-some}
 use Rattle.points.specs.Theorems.Cells.{CellAxes, splitOf, one-longer, step-down, in-half, half-fits}

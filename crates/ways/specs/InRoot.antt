@@ -9,9 +9,9 @@ use lib.ListN.{length, getD}
 use Rattle.dimension.specs.Sizes.{isDimension, rootCount, cubeSide}
 use Rattle.bisection.specs.Cells.{Point, coordinate, cellOf}
 use Rattle.bisection.specs.Roots.{axesFrom, arrangements, roots}
+use Rattle.bisection.specs.Weights.{Inside}
 use Rattle.positions.specs.Arrangements.{here, there, Arranged, none, next, arranged-length, rank, rank-under, stands}
 use Rattle.positions.specs.RootNumbers.{axes-length, roots-count, roots-good, roots-length}
-use Rattle.points.specs.Weights.{Inside}
 use Rattle.points.specs.Points.{InCube}
 use Rattle.points.specs.Roots.{FirstRoot}
 use Rattle.points.specs.Theorems.RootCells.{Falls, falls-none, falls-more, falls-inside}

@@ -14,15 +14,14 @@ use Rattle.dimension.specs.Sizes.{isDimension, cubeSide, boxSide, greatestDepth
 use Rattle.dimension.specs.Laws.{dimension, at-root, side-first}
 use Rattle.bisection.specs.Cells.{Point, coordinate, cellOf}
 use Rattle.bisection.specs.Roots.{GoodRoot, roots}
+use Rattle.bisection.specs.Weights.{Inside}
 use Rattle.bisection.specs.Theorems.Checked.{at-each, each-fails}
 use Rattle.bisection.specs.Theorems.CodePaths.{some-axes}
 use Rattle.bisection.specs.Theorems.Geometry.{closed-form}
+use Rattle.bisection.specs.Theorems.Weights.Axes.{axes-same, listOf, list-length, list-at, weighs-axes, axes-weighs}
 use Rattle.positions.specs.RootNumbers.{roots-count, roots-good, roots-length, roots-few}
-use Rattle.points.specs.Weights.{Inside}
 use Rattle.points.specs.Points.{pointOf, isPoint, InCube}
 use Rattle.points.specs.Roots.{FirstRoot}
-use Rattle.points.specs.ClosedForm.{listOf}
-use Rattle.points.specs.Theorems.Axes.{axes-same, list-length, list-at, weighs-axes, axes-weighs}
 use Rattle.points.specs.Theorems.RootCells.{Falls, falls-by, height, rootWeight, height-some, height-past, height-falls, inside-falls, falls-axes, falls-inside}
 use Rattle.points.specs.Theorems.Cells.{CellAxes}
 use Rattle.points.specs.Theorems.CubePoints.{inRange, point-bytes, point-in-cube}

@@ -10,8 +10,8 @@ use lib.ListN.{length, length-append}
 use Rattle.dimension.specs.Sizes.{greatestDepth}
 use Rattle.bisection.specs.Cells.{Point, cellOf}
 use Rattle.bisection.specs.Roots.{GoodRoot}
+use Rattle.bisection.specs.Weights.{Inside}
 use Rattle.positions.specs.Positions.{startOf}
-use Rattle.points.specs.Weights.{Inside}
 use Rattle.points.specs.Theorems.Cells.{inside-above}
 use Rattle.ways.specs.Ways.{Way}
 

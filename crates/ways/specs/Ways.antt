@@ -9,11 +9,11 @@ use lib.ListN.{length, getD, take}
 use Rattle.dimension.specs.Sizes.{isDimension, rootCount, greatestDepth, cubeSide}
 use Rattle.bisection.specs.Cells.{Point, cellOf}
 use Rattle.bisection.specs.Roots.{GoodRoot, roots}
+use Rattle.bisection.specs.Weights.{Weighs, Inside}
+use Rattle.bisection.specs.Theorems.Weights.Axes.{listOf}
 use Rattle.positions.specs.Positions.{startOf}
-use Rattle.points.specs.Weights.{Weighs, Inside}
 use Rattle.points.specs.Points.{pointOf, isPoint}
 use Rattle.points.specs.Roots.{FirstRoot}
-use Rattle.points.specs.ClosedForm.{listOf}
 use Rattle.points.specs.Theorems.Halving.{down}
 use Rattle.ways.specs.declared.Stepped.{Stepped}
 use Rattle.ways.specs.declared.Place.{Place}

@@ -8,7 +8,7 @@ ghost use lib.ListN.{length, getD};
 ghost use Rattle.dimension.specs.Sizes.{axesOf, cubeSide, greatestDepth};
 ghost use Rattle.bisection.specs.Cells.{coordinate, cellOf};
 ghost use Rattle.bisection.specs.Roots.{roots};
-ghost use Rattle.points.specs.Weights.{Inside};
+ghost use Rattle.bisection.specs.Weights.{Inside};
 ghost use Rattle.points.specs.Points.{pointOf, isPoint};
 ghost use Rattle.points.specs.Roots.{FirstRoot};
 ghost use Rattle.points.specs.Theorems.RootCells.{height, rootWeight};

@@ -6,8 +6,8 @@ use Prim.Native.Nat.{ℕ, suc, _+_, _≤_, _<_}
 use native.Mathlib.Omega.{arith}
 use native.Mathlib.Nat.{zero-add}
 use native.Mathlib.Decide.{decLt}
-use lib.ListN.{length, getD, length-append, List·getD-append}
-use lib.Seq.{getD-at}
+use lib.ListN.{length, getD, take, length-append, List·getD-append}
+use lib.Seq.{take-at, getD-at}
 use Rattle.dimension.specs.Sizes.{greatestDepth, splitPlace}
 use Rattle.bisection.specs.Cells.{Cell, child, rootCell, cellBelow, cellOf}
 use Rattle.bisection.specs.Roots.{GoodPath}
@@ -29,6 +29,23 @@ pub cell-of-child : (root path : List ℕ) (b : ℕ) → cellOf root (path ++ b 
 unfolding cellOf
 cell-of-child root path b = rw zero-add at (below-child (length root) path 0 (rootCell root) b)
 
+-- a path is known by the path with one step more
+pub shorter : (p q : List ℕ) (x y : ℕ) → p ++ x ∷ [] ≡ q ++ y ∷ [] → p ≡ q
+shorter p q x y e = sym (take-at p (x ∷ []) (length p) refl) ∙ ap (take (length p)) e ∙ ap (λ (n : ℕ). take n (q ++ y ∷ [])) size ∙ take-at q (y ∷ []) (length q) refl
+  where
+    size : length p ≡ length q
+    size = omega (arith, simp length-append at (ap length e))
+
+-- a path that is not empty has a last step
+pub record Stepped (path : List ℕ) : Type 0 where
+  pub front : List ℕ
+  pub last : ℕ
+  pub is : path ≡ front ++ last ∷ []
+
+pub stepped-path : (b : ℕ) (path : List ℕ) → Stepped (b ∷ path)
+stepped-path b [] = record { front = []; last = b; is = refl }
+stepped-path b (x ∷ path) = let s = stepped-path x path in record { front = b ∷ s .front; last = s .last; is = ap (λ (l : List ℕ). b ∷ l) (s .is) }
+
 -- a good path with a step more, where it is not the deepest
 one-step-more : {d : ℕ} {path : List ℕ} {b : ℕ} → GoodPath d path → b ≤ 1 → length path < greatestDepth d → GoodPath d (path ++ b ∷ [])
 one-step-more {d} {path} {b} p w l = record { steps = λ i h. go i (omega (arith, more)) (decLt i (length path)); depth = omega (arith, more) }
@@ -40,13 +57,17 @@ one-step-more {d} {path} {b} p w l = record { steps = λ i h. go i (omega (arith
     go i h (yes q) = rw (List·getD-append path (b ∷ []) 0 i q) (p .steps i q)
     go i h (no q) = let e : i ≡ length path = omega arith in rw e (rw (getD-at path b [] 0 (length path) refl) w)
 
--- said of codes: the code of the path with one step more names the child of the code's cell
+-- said of codes: the code of the path with one step more is a good path's, and names the child of the code's cell
+pub child-code-of : {code answer root path : List ℕ} {b : ℕ} → IsCodeOf code root path → answer ≡ codeOf root (path ++ b ∷ []) → b ≤ 1 → depthOf code < greatestDepth (dimensionOf code)
+    → IsCodeOf answer root (path ++ b ∷ [])
+child-code-of c e w l = record { good-root = c .good-root; good-path = one-step-more (c .good-path) w (rw (length-root c, length-path-of c) l); is = e }
+
 pub child-cell : {code answer root path : List ℕ} {vs : Cell} {b : ℕ} → IsCodeOf code root path → answer ≡ codeOf root (path ++ b ∷ []) → b ≤ 1
     → depthOf code < greatestDepth (dimensionOf code) → vs ≡ cellOf root path → IsCell answer (child b (splitPlace (dimensionOf code) (depthOf code)) vs)
 child-cell {code} {answer} {root} {path} {vs} {b} c e w l is = record {
   root = root;
   path = path ++ b ∷ [];
-  code-of = record { good-root = c .good-root; good-path = one-step-more (c .good-path) w (rw (length-root c, length-path-of c) l); is = e };
+  code-of = child-code-of c e w l;
   is = rw is (sym (cell-of-child root path b ∙ rw (length-root c, length-path-of c) refl));
 }
 

@@ -3,21 +3,21 @@
 use mathlib.Core.Path.{_≡_, refl, sym, ap, _∙_, subst}
 use mathlib.Core.Bool.{Bool, true, false, cond}
 use mathlib.Core.List.{List, [], _∷_, _++_}
-use mathlib.Core.Logic.{_⊎_, ⊎-elim, _≢_}
+use mathlib.Core.Logic.{⊎-elim, _≢_}
 use Prim.Native.Nat.{ℕ, zero, suc, _+_, _-_, _/_, _≤_, _<_}
 use native.Mathlib.Omega.{arith}
 use native.Mathlib.Nat.{add-zero, add-suc, suc-add, zero-add}
 use native.Mathlib.Decide.{decLe, ℕ-discrete}
 use lib.Dec.{eqb, leb, leb·suc-suc, leb·suc-zero, leb·zero}
 use lib.ListN.{length, getD, set, replicate, length-set, length-replicate}
-use lib.Seq.{getD-set-same, getD-set-other, set-split}
+use lib.Seq.{getD-set-same, getD-set-other}
 use borrow.Author.Tests.{le-leb, lt-leb}
 use Rattle.dimension.specs.Sizes.{cubeSide, greatestDepth, splitPlace, boxDepth, boxSide, sideAfter, level}
 use Rattle.dimension.specs.Laws.{Within, Turned, deeper, split-range, at-root, side-first, side-half, side-even, box-under}
-use Rattle.bisection.specs.Cells.{Point, Cell, coordinate, vertex, midpoint, child, moved, corners, rootCell, cellBelow}
+use Rattle.bisection.specs.Cells.{Point, Cell, coordinate, vertex, child, moved, corners, rootCell, cellBelow}
 use Rattle.bisection.specs.Roots.{Permutation}
 use Rattle.bisection.specs.Codes.{axis, minus, turned, stepped, high, orthant, Name, step, rootName, nameBelow}
-use Rattle.bisection.specs.Theorems.Lists.{shifted, shifted-before, shifted-at, shifted-past, shifted-length, getD-midpoint, length-midpoint}
+use Rattle.bisection.specs.Theorems.Lists.{middle, child-set, child-shifted, shifted, shifted-before, shifted-at, shifted-past, shifted-length, getD-midpoint, length-midpoint}
 use Rattle.bisection.specs.Theorems.Axis.{closed, closed-near, closed-far, row0, row1, row0-at, row0-other, row1-before, row1-at, row1-past, Order, order, under, same, over, child0-closed, child1-moved, child1-first, child1-past, halfLow, level-end}
 use Rattle.bisection.specs.Theorems.Entries.{Signed, axis-negated, minus-negated, turned-before, turned-at, turned-past}
 use Rattle.bisection.specs.Theorems.Passing.{Passes, step-passes, orthant-high, signed-stepped}
@@ -53,57 +53,47 @@ pub record Drawn (d D : ℕ) (m : Name) (vs : Cell) : Type 0 where
 
 -- a child of a cell, one axis at a time
 module _ (d k : ℕ) (vs : Cell) (z : Sized d vs) (kd : k ≤ d) where
-  m : Point
-  m = midpoint (vertex vs 0) (vertex vs k)
+  abbrev m : Point
+  m = middle k vs
 
   same-dims : length (vertex vs 0) ≡ length (vertex vs k)
   same-dims = z .dims 0 (omega arith) ∙ sym (z .dims k kd)
 
-  m-length : length m ≡ d
-  unfolding m
-  m-length = length-midpoint (vertex vs 0) (vertex vs k) same-dims ∙ z .dims 0 (omega arith)
+  pub middle-length : length (middle k vs) ≡ d
+  middle-length = length-midpoint (vertex vs 0) (vertex vs k) same-dims ∙ z .dims 0 (omega arith)
 
-  m-at : (a : ℕ) → coordinate m a ≡ (along vs a 0 + along vs a k) / 2
-  unfolding m
-  m-at a = getD-midpoint (vertex vs 0) (vertex vs k) (a - 1) same-dims
+  pub middle-at : (a : ℕ) → coordinate (middle k vs) a ≡ (along vs a 0 + along vs a k) / 2
+  middle-at a = getD-midpoint (vertex vs 0) (vertex vs k) (a - 1) same-dims
 
   room : k < length vs
   room = omega (arith, z .size)
 
-  child-set : child 0 k vs ≡ set vs k m
-  unfolding child m
-  child-set = sym (set-split vs k (midpoint (vertex vs 0) (vertex vs k)) room)
-
-  child-shifted : (b : ℕ) → child (suc b) k vs ≡ shifted k m vs
-  unfolding child m shifted
-  child-shifted b = refl
-
   pub child0-along : (a j : ℕ) → along (child 0 k vs) a j ≡ row0 k (along vs a) j
-  child0-along a j = rw child-set (go (ℕ-discrete j k))
+  child0-along a j = rw (child-set k vs room) (go (ℕ-discrete j k))
     where
       go : Dec (j ≡ k) → coordinate (vertex (set vs k m) j) a ≡ row0 k (along vs a) j
-      go (yes e) = rw (row0-at k (along vs a) j e, e, getD-set-same vs k m [] room) (m-at a)
+      go (yes e) = rw (row0-at k (along vs a) j e, e, getD-set-same vs k m [] room) (middle-at a)
       go (no e) = rw (row0-other k (along vs a) j e, getD-set-other vs k j m [] e) refl
 
   pub child1-along : (b a j : ℕ) → along (child (suc b) k vs) a j ≡ row1 k (along vs a) j
-  child1-along b a j = rw (child-shifted b) (go (order j k))
+  child1-along b a j = rw (child-shifted b k vs) (go (order j k))
     where
       go : Order j k → coordinate (vertex (shifted k m vs) j) a ≡ row1 k (along vs a) j
       go (under h) = rw (row1-before k (along vs a) j h, shifted-before [] k m vs room j h) refl
-      go (same h) = rw (row1-at k (along vs a) j h, shifted-at [] k m vs room j h) (m-at a)
+      go (same h) = rw (row1-at k (along vs a) j h, shifted-at [] k m vs room j h) (middle-at a)
       go (over h) = rw (row1-past k (along vs a) j h, shifted-past [] k m vs room j h) refl
 
   pub sized-child : (b : ℕ) → Sized d (child b k vs)
-  sized-child zero = rw child-set (record { size = length-set vs k m ∙ z .size; dims = λ j l. go j l (ℕ-discrete j k) })
+  sized-child zero = rw (child-set k vs room) (record { size = length-set vs k m ∙ z .size; dims = λ j l. go j l (ℕ-discrete j k) })
     where
       go : (j : ℕ) → j ≤ d → Dec (j ≡ k) → length (vertex (set vs k m) j) ≡ d
-      go j l (yes e) = rw (e, getD-set-same vs k m [] room) m-length
+      go j l (yes e) = rw (e, getD-set-same vs k m [] room) middle-length
       go j l (no e) = rw (getD-set-other vs k j m [] e) (z .dims j l)
-  sized-child (suc b) = rw (child-shifted b) (record { size = shifted-length [] k m vs room ∙ z .size; dims = λ j l. go j l (order j k) })
+  sized-child (suc b) = rw (child-shifted b k vs) (record { size = shifted-length [] k m vs room ∙ z .size; dims = λ j l. go j l (order j k) })
     where
       go : (j : ℕ) → j ≤ d → Order j k → length (vertex (shifted k m vs) j) ≡ d
       go j l (under h) = rw (shifted-before [] k m vs room j h) (z .dims (suc j) (omega arith))
-      go j l (same h) = rw (shifted-at [] k m vs room j h) m-length
+      go j l (same h) = rw (shifted-at [] k m vs room j h) middle-length
       go j l (over h) = rw (shifted-past [] k m vs room j h) (z .dims j l)
 
 -- a step within the box, k = n + 1: entries e, box by low side and side

@@ -4,19 +4,19 @@ use mathlib.Core.Path.{_≡_, refl, sym, ap, _∙_, subst}
 use mathlib.Core.Bool.{Bool, true, false}
 use mathlib.Core.List.{List}
 use mathlib.Core.Logic.{_≢_}
-use Prim.Native.Nat.{ℕ, suc, _+_, _-_, _%_, _≤_, _<_}
+use Prim.Native.Nat.{ℕ, suc, _+_, _%_, _≤_, _<_}
 use native.Mathlib.Omega.{arith}
 use native.Mathlib.Nat.{zero-add}
 use native.Mathlib.Decide.{decLe}
-use lib.ListN.{length}
-use Rattle.dimension.specs.Sizes.{greatestDepth, splitPlace, boxSide, boxDepth}
-use Rattle.dimension.specs.Laws.{split-range, side-even, box-under}
-use Rattle.bisection.specs.Cells.{Cell, coordinate, vertex, cellOf}
+use lib.ListN.{length, getD}
+use Rattle.dimension.specs.Sizes.{cubeSide, greatestDepth, splitPlace, boxSide, boxDepth}
+use Rattle.dimension.specs.Laws.{at-root, side-first, split-range, side-even, box-under}
+use Rattle.bisection.specs.Cells.{Cell, coordinate, vertex, rootCell, cellOf}
 use Rattle.bisection.specs.Roots.{GoodRoot}
 use Rattle.bisection.specs.Codes.{axis, minus, Name, rootName, nameOf}
 use Rattle.bisection.specs.Theorems.Axis.{closed, closed-near, closed-far, near, far, sides-even, Order, order, under, same, over}
 use Rattle.bisection.specs.Theorems.Entries.{Signed, Stands, stands}
-use Rattle.bisection.specs.Theorems.Paths.{root-passes}
+use Rattle.bisection.specs.Theorems.Paths.{plain-minus, plain-axis, root-passes}
 use Rattle.bisection.specs.Theorems.Drawn.{Drawn, boxLow, along, entry, drawn-root, drawn-below}
 use Rattle.bisection.specs.Theorems.CodePaths.{some-axes, few-axes, name-passes}
 
@@ -30,6 +30,21 @@ closed-form root path r h = rw zero-add at (drawn-below (length root) d0 small p
 
     small : length root < 128
     small = few-axes (r .dimension)
+
+-- a root's: on the axis of its entry i the vertices up to i are at 0, those past it at the cube's side
+module _ (root : List ℕ) (good : GoodRoot root) where
+  root-plain : (i : ℕ) → i < length root → minus (getD root i 0) ≡ false
+  root-plain i l = plain-minus (getD root i 0) (omega (arith, few-axes (good .dimension), good .permutation .high i l))
+
+  pub root-axis : (i : ℕ) → i < length root → getD root i 0 ≡ axis (getD root i 0)
+  root-axis i l = sym (plain-axis (getD root i 0) (root-plain i l))
+
+  pub root-drawn : Drawn (length root) 0 (rootName root) (rootCell root)
+  root-drawn = drawn-root root (some-axes (good .dimension)) (few-axes (good .dimension)) (good .permutation)
+
+  pub root-reads : (i : ℕ) → i < length root → (j : ℕ) → j ≤ length root → along (rootCell root) (getD root i 0) j ≡ closed 0 cubeSide false i (length root) j
+  unfolding boxLow boxSide
+  root-reads i l j h = let o = at-root (length root) (some-axes (good .dimension)) in rw (← root-axis i l, root-plain i l, o .0, o .1, side-first) at (root-drawn .reads i l j h)
 
 -- every midpoint at which a cell is split is whole
 even-twice : (x : ℕ) → (x + x) % 2 ≡ 0

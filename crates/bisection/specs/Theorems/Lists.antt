@@ -1,12 +1,13 @@
--- Lists read by their places: a list shifted left with one element put behind, the midpoint of two points, and how many bytes a point has.
+-- Lists read by their places: a list shifted left with one element put behind, the two children so, the midpoint of two points, and how
+-- many bytes a point has.
 use mathlib.Core.Path.{_≡_, refl, sym, ap, _∙_, subst}
 use mathlib.Core.List.{List, [], _∷_, _++_}
 use Prim.Native.Nat.{ℕ, zero, suc, _+_, _-_, _*_, _/_, _<_}
 use native.Mathlib.Omega.{arith}
 use native.Mathlib.Numerals.{one-add}
-use lib.ListN.{length, getD, take, drop, length-take, length-drop, length-append, List·getD-append}
-use lib.Seq.{getD-take, getD-drop, getD-append-add, getD-at}
-use Rattle.bisection.specs.Cells.{midpoint, pointBytes}
+use lib.ListN.{length, getD, set, take, drop, length-take, length-drop, length-append, List·getD-append}
+use lib.Seq.{getD-take, getD-drop, getD-append-add, getD-at, set-split}
+use Rattle.bisection.specs.Cells.{Point, Cell, vertex, midpoint, child, pointBytes}
 
 -- places 1..n go to 0..n-1, x stands at n, and what is past n stays
 unfoldable pub shifted : {A : Type 0} → ℕ → A → List A → List A
@@ -42,6 +43,18 @@ module _ {A : Type 0} (z : A) (n : ℕ) (x : A) (l : List A) (h : n < length l) 
   pub shifted-length : length (shifted n x l) ≡ length l
   unfolding shifted front
   shifted-length = simp (length-append, length-drop, front-length) (omega (arith, front-length))
+
+-- the middle of the edge that is split; child 0 has it in the place of vertex k, child 1 is the cell shifted with it put behind
+abbrev pub middle : ℕ → Cell → Point
+middle k vs = midpoint (vertex vs 0) (vertex vs k)
+
+pub child-set : (k : ℕ) (vs : Cell) → k < length vs → child 0 k vs ≡ set vs k (middle k vs)
+unfolding child
+child-set k vs room = sym (set-split vs k (middle k vs) room)
+
+pub child-shifted : (b k : ℕ) (vs : Cell) → child (suc b) k vs ≡ shifted k (middle k vs) vs
+unfolding child shifted
+child-shifted b k vs = refl
 
 pub getD-midpoint : (p q : List ℕ) (a : ℕ) → length p ≡ length q → getD (midpoint p q) a 0 ≡ (getD p a 0 + getD q a 0) / 2
 unfolding midpoint

@@ -203,6 +203,29 @@ across-determined {code} {i} {code'} {code''} il x y = (across-code a b il x ∙
     d : IsCell code'' (y .shares .ws)
     d = y .shares .cell'
 
+-- another cell with all the facet's vertices is the answer, and its new vertex stands at the place but for which it has no other
+pub shares-across : {i : ℕ} {code code' : List ℕ} → i ≤ dimensionOf code → (s : Shares i code code') (j : ℕ) → j ≤ dimensionOf code → HasAll (facet j (s .ws)) (s .vs) → Across code i code' j
+shares-across {i} {code} {code'} il s j jl h = record { shares = s; only = λ code'' t. a .only code'' t ∙ sym e; place = jl; new = subst (λ (t : ℕ). ¬ List·Memᴰ (vertex (s .ws) t) (s .vs)) at-j new }
+  where
+    a : Across code i (tableCode code i) (tablePlace code i)
+    a = across-free (s .cell) i il (λ w. face-alone (s .cell) i il w code' s)
+
+    e : code' ≡ tableCode code i
+    e = a .only code' s
+
+    new : ¬ List·Memᴰ (vertex (s .ws) (tablePlace code i)) (s .vs)
+    new = across-new (s .cell) (s .cell') il (subst (λ (y : List ℕ). Across code i y (tablePlace code i)) (sym e) a)
+
+    size : length (s .ws) ≡ suc (dimensionOf code)
+    size = shares-coded s .drawn .sized .size
+
+    at-j : tablePlace code i ≡ j
+    at-j = go (ℕ-discrete (tablePlace code i) j)
+      where
+        go : Dec (tablePlace code i ≡ j) → tablePlace code i ≡ j
+        go (yes q) = q
+        go (no q) = absurd (new (h (vertex (s .ws) (tablePlace code i)) (facet-mem (s .ws) j (omega (arith, size)) (tablePlace code i) (omega (arith, size, a .place)) q)))
+
 -- the way back: the facet crossed is in no face of the cube, so the table has an answer there, and it is the first cell
 module _ {code code' : List ℕ} {vs ws : Cell} {i j : ℕ} (c : IsCell code vs) (c' : IsCell code' ws) (il : i ≤ dimensionOf code) (x : Across code i code' j) where
   jl : j ≤ dimensionOf code'

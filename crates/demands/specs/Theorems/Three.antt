@@ -16,10 +16,10 @@ use Rattle.codes.specs.Fronts.Laws.{code-length}
 use Rattle.crossing.specs.declared.Crossed.{Crossed}
 use Rattle.crossing.specs.Outcome.{Meets, wall, short, crossed, Crosses}
 use Rattle.crossing.specs.Determined.{given-done, crossing-back}
-use Rattle.demands.specs.Three.{Call, Demand3}
+use Rattle.demands.specs.Three.{Call, Crossing, Demand3}
 
 -- the code of a cell has the length that its dimension and depth give
-cell-length : {code : List ℕ} {vs : Cell} → IsCell code vs → length code ≡ codeLength (dimensionOf code) (depthOf code)
+pub cell-length : {code : List ℕ} {vs : Cell} → IsCell code vs → length code ≡ codeLength (dimensionOf code) (depthOf code)
 cell-length c = code-length (c .code-of) (cell-passes c) ∙ rw (length-root (c .code-of), length-path-of (c .code-of)) refl
 
 module _ {code : List ℕ} {vs : Cell} {i : ℕ} {before : List ℕ} {r : Crossed} {after : List ℕ} (c : Call code vs i before r after) where
@@ -69,6 +69,9 @@ module _ {code : List ℕ} {vs : Cell} {i : ℕ} {before : List ℕ} {r : Crosse
       → (r' .refusal ≡ done) × (take (r' .length) after' ≡ code) × (r' .place ≡ i)
   and-back e before' r' after' l b = let g = crossing-back (c .meets) e l b in (g .refusal, g .front, g .place)
 
+  pub crossing : Crossing code vs i r after
+  crossing = record { refused = only-face; face = in-face; no-face = in-none; alone = no-other; across = one-other; back = and-back }
+
 pub demand-3 : Demand3
 unfolding Demand3
-demand-3 code vs i before r after c = record { refused = only-face c; face = in-face c; no-face = in-none c; alone = no-other c; across = one-other c; back = and-back c }
+demand-3 code vs i before r after c = crossing c

@@ -85,7 +85,7 @@ points code before r after a e vs c =
     let v = a .is (sym (a .writes .number) ∙ e) in
     front (a .writes) e ∙ v .is ∙ ap cellBytes (one-cell (record { root = v .root; path = v .path; code-of = v .code-of; is = refl }) c)
 
-half : (code : List ℕ) (which : ℕ) (before : List ℕ) (r : Written) (after : List ℕ) → Child code which before r after → r .refusal ≡ done → (vs : Cell) → IsCell code vs → IsCell (take (r .length) after) (child which (splitPlace (dimensionOf code) (depthOf code)) vs)
+pub half : (code : List ℕ) (which : ℕ) (before : List ℕ) (r : Written) (after : List ℕ) → Child code which before r after → r .refusal ≡ done → (vs : Cell) → IsCell code vs → IsCell (take (r .length) after) (child which (splitPlace (dimensionOf code) (depthOf code)) vs)
 unfolding childRefusal
 half code which before r after a e vs c =
     let z : childRefusal code which (length before) ≡ done = sym (a .writes .number) ∙ e in

@@ -14,10 +14,9 @@ use Rattle.bisection.specs.Cells.{Point, cellOf}
 use Rattle.bisection.specs.Roots.{GoodRoot}
 use Rattle.bisection.specs.Theorems.CodePaths.{some-axes}
 use Rattle.bisection.specs.Theorems.Geometry.{closed-form}
-use Rattle.points.specs.Weights.{sumTo, Weighs}
-use Rattle.points.specs.ClosedForm.{listOf}
-use Rattle.points.specs.Theorems.Sums.{sum-same, sum-scale}
-use Rattle.points.specs.Theorems.Axes.{Axes, axes-list, weight-most}
+use Rattle.bisection.specs.Weights.{sumTo, Weighs}
+use Rattle.bisection.specs.Theorems.Weights.Sums.{sum-same, sum-scale}
+use Rattle.bisection.specs.Theorems.Weights.Axes.{Axes, listOf, axes-list, weight-most}
 use Rattle.points.specs.Theorems.Halving.{down, low-down-last, low-down-other, high-down-last, high-down-past}
 use Rattle.points.specs.Theorems.RootCells.{rootWeight, inside-falls, falls-axes}
 use Rattle.points.specs.Theorems.Cells.{In, CellAxes, splitOf, one-longer, by-steps, step-down, in-parent, half-fits, weights-scaled, weights-one}

@@ -1,52 +1,28 @@
 -- Points in the cells of the bisection, for every dimension, by steps down from a root: a point of a cell lies in a half of it and in
 -- every cell above it; its weights tell in which half; of any sum it has one list of weights at most, and of the box's side as their
 -- sum exactly one.
-use mathlib.Core.Path.{_≡_, sym, ap, _∙_, subst}
+use mathlib.Core.Path.{_≡_, sym, _∙_, subst}
 use mathlib.Core.List.{List, [], _∷_, _++_, append-assoc, append-nil}
 use mathlib.Core.Logic.{_⊎_, inl, inr}
-use Prim.Native.Nat.{ℕ, zero, suc, _+_, _-_, _*_, _≤_, _<_}
+use Prim.Native.Nat.{ℕ, zero, suc, _+_, _*_, _≤_, _<_}
 use native.Mathlib.Omega.{arith}
 use native.Mathlib.Nat.{le-of-mul-le-mul-left, eq-of-mul-eq-mul-left, mul-le-mul-left}
-use native.Mathlib.Decide.{decLe, ℕ-discrete}
+use native.Mathlib.Decide.{decLe}
 use lib.ListN.{length, getD, length-append}
 use lib.Seq.{ext-getD}
 use Rattle.dimension.specs.Sizes.{cubeSide, greatestDepth, splitPlace}
 use Rattle.dimension.specs.Laws.{split-range}
-use Rattle.bisection.specs.Cells.{Point, coordinate, cellBelow, cellOf}
+use Rattle.bisection.specs.Cells.{Point, coordinate, cellOf}
 use Rattle.bisection.specs.Roots.{GoodRoot}
 use Rattle.bisection.specs.Theorems.Drawn.{Sized, along}
-use Rattle.bisection.specs.Theorems.CodePaths.{some-axes}
+use Rattle.bisection.specs.Theorems.CodePaths.{some-axes, name-passes}
 use Rattle.bisection.specs.Theorems.CellChildren.{cell-of-child}
 use Rattle.bisection.specs.Theorems.Geometry.{closed-form, whole-midpoint}
-use Rattle.bisection.specs.Theorems.Axis.{Order, order, under, same, over}
-use Rattle.points.specs.Weights.{sumTo, Weighs, Inside}
-use Rattle.points.specs.ClosedForm.{listOf}
-use Rattle.points.specs.Theorems.Sums.{sum-same, sum-scale}
-use Rattle.points.specs.Theorems.Axes.{mean, Axes, weighs-axes, axes-list, axes-inside}
-use Rattle.points.specs.Theorems.Halving.{up, low-first, low-last, low-other, high-first, high-last, high-before, high-past, Fits, up-fits, down, Splits, half-mean, half-sum, axes-up, axes-down}
-use Rattle.points.specs.Theorems.RootCells.{Falls, decFalls, root-independent, inside-falls, falls-inside}
-
--- different weights in a half give different weights in the cell
-up-apart : (b d k : ℕ) → 1 ≤ k → k ≤ d → (u v : ℕ → ℕ) → ((j : ℕ) → j ≤ d → up b k u j ≡ up b k v j) → (j : ℕ) → j ≤ d → u j ≡ v j
-up-apart zero d k k1 kd u v e j l = go (ℕ-discrete j k) (ℕ-discrete j 0)
-  where
-    last : u k ≡ v k
-    last = sym (low-last 0 k k1 u) ∙ e k kd ∙ low-last 0 k k1 v
-
-    go : Dec (j ≡ k) → Dec (j ≡ 0) → u j ≡ v j
-    go (yes q) r = rw q last
-    go (no q) (yes r) = rw r (omega (arith, low-first 0 k k1 u, low-first 0 k k1 v, e 0 (omega arith), last))
-    go (no q) (no r) = omega (arith, low-other 0 k k1 u j r q, low-other 0 k k1 v j r q, e j l)
-up-apart (suc b) d k k1 kd u v e j l = go (order j k) (ℕ-discrete (suc j) k)
-  where
-    last : u k ≡ v k
-    last = sym (high-first b k k1 u) ∙ e 0 (omega arith) ∙ high-first b k k1 v
-
-    go : Order j k → Dec (suc j ≡ k) → u j ≡ v j
-    go (under h) (yes q) = let r : j ≡ k - 1 = omega arith in rw r (omega (arith, high-last b k k1 u, high-last b k k1 v, e k kd, last))
-    go (under h) (no q) = omega (arith, high-before b k k1 u j (omega arith), high-before b k k1 v j (omega arith), e (suc j) (omega arith))
-    go (same h) q = rw h last
-    go (over h) q = omega (arith, high-past b k k1 u j h, high-past b k k1 v j h, e j l)
+use Rattle.bisection.specs.Weights.{sumTo, Weighs, Inside}
+use Rattle.bisection.specs.Theorems.Weights.Axes.{mean, Axes, listOf, weighs-axes, axes-list, axes-inside}
+use Rattle.bisection.specs.Theorems.Weights.Independent.{axes-one, axes-scaled}
+use Rattle.points.specs.Theorems.Halving.{up, Fits, up-fits, down, Splits, half-mean, half-sum, axes-up, axes-down}
+use Rattle.points.specs.Theorems.RootCells.{Falls, decFalls, inside-falls, falls-inside}
 
 pub one-longer : (path : List ℕ) (b : ℕ) → length (path ++ b ∷ []) ≡ suc (length path)
 one-longer path b = simp length-append (omega arith)
@@ -114,32 +90,13 @@ module _ (root : List ℕ) (good : GoodRoot root) where
       pub step-down : {w : ℕ → ℕ} → Fits b (splitOf root path) w → CellAxes root p path W w → CellAxes root p (path ++ b ∷ []) W (down b (splitOf root path) w)
       step-down = rw (cell-of-child root path b) (axes-down (splits path deep) b)
 
-  -- no two lists of weights give the same sum and the same means
-  record Independent (path : List ℕ) : Type 0 where
-    same-weights : (w u : ℕ → ℕ) → sumTo n w ≡ sumTo n u → ((a : ℕ) → 1 ≤ a → a ≤ length root → meanOf path w a ≡ meanOf path u a) → (j : ℕ) → j ≤ length root → w j ≡ u j
-
-  independent : (path : List ℕ) → length path ≤ M → Independent path
-  unfolding cellOf cellBelow
-  independent = by-steps Independent (record { same-weights = root-independent root good })
-      (λ path b deep i. let z = splits path deep in record {
-        same-weights = λ w u e m. up-apart b (length root) (splitOf root path) (z .first) (z .last) w u (i .same-weights _ _
-            (step-sum path b deep w ∙ ap (λ (x : ℕ). 2 * x) e ∙ sym (step-sum path b deep u))
-            (λ a l h. step-mean path b deep w a l h ∙ ap (λ (x : ℕ). 2 * x) (m a l h) ∙ sym (step-mean path b deep u a l h)));
-      })
-
-  -- multiples have multiples of the mean
-  mean-times : (path : List ℕ) (c : ℕ) (w : ℕ → ℕ) (a : ℕ) → meanOf path (λ j. c * w j) a ≡ c * meanOf path w a
-  mean-times path c w a = sum-same n _ (λ j. c * (w j * along (cellOf root path) a j)) (λ j l. omega arith) ∙ sum-scale c n _
-
   module _ {p : Point} (dims : length p ≡ length root) where
     axes-of : (path : List ℕ) → length path ≤ M → {W : ℕ} {ws : List ℕ} → Weighs (cellOf root path) p W ws → CellAxes root p path W (λ j. getD ws j 0)
     axes-of path deep h = weighs-axes (sized path deep) dims h
 
     -- of two sums, the weights are in proportion
     scaled : (path : List ℕ) → length path ≤ M → {W U : ℕ} {w u : ℕ → ℕ} → CellAxes root p path W w → CellAxes root p path U u → (j : ℕ) → j ≤ length root → U * w j ≡ W * u j
-    scaled path deep {W} {U} {w} {u} h g = independent path deep .same-weights (λ j. U * w j) (λ j. W * u j)
-        (sum-scale U n w ∙ rw (h .sum, g .sum) (omega arith) ∙ sym (sum-scale W n u))
-        (λ a l m. mean-times path U w a ∙ rw (h .means a l m, g .means a l m) (omega arith) ∙ sym (mean-times path W u a))
+    scaled path deep = axes-scaled (some-axes (good .dimension)) deep (name-passes good path .signed) (closed-form root path good deep)
 
     pub weights-scaled : (path : List ℕ) → length path ≤ M → (c : ℕ) {W : ℕ} → 0 < W → {ws us : List ℕ} → Weighs (cellOf root path) p (c * W) ws → Weighs (cellOf root path) p W us
         → (j : ℕ) → j ≤ length root → getD ws j 0 ≡ c * getD us j 0
@@ -147,9 +104,8 @@ module _ (root : List ℕ) (good : GoodRoot root) where
 
     -- of one sum, there is one list of weights at most
     pub weights-one : (path : List ℕ) → length path ≤ M → {W : ℕ} {ws us : List ℕ} → Weighs (cellOf root path) p W ws → Weighs (cellOf root path) p W us → ws ≡ us
-    weights-one path deep {W} {ws} {us} h g = let a = axes-of path deep h in let b = axes-of path deep g in ext-getD 0 ws us (h .count ∙ sym (g .count))
-        (λ j l. independent path deep .same-weights (λ j. getD ws j 0) (λ j. getD us j 0) (a .sum ∙ sym (b .sum)) (λ i m n. a .means i m n ∙ sym (b .means i m n))
-        j (omega (arith, h .count, sized path deep .size)))
+    weights-one path deep {W} {ws} {us} h g = ext-getD 0 ws us (h .count ∙ sym (g .count)) (λ j l. axes-one (some-axes (good .dimension)) deep (name-passes good path .signed)
+        (closed-form root path good deep) (axes-of path deep h) (axes-of path deep g) j (omega (arith, h .count, sized path deep .size)))
 
     module _ (path : List ℕ) (b : ℕ) (deep : length path < M) where
       half-axes : (i : In root p (path ++ b ∷ [])) → CellAxes root p path (2 * i .W) (up b (splitOf root path) (λ j. getD (i .ws) j 0))

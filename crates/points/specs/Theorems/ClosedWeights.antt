@@ -1,11 +1,10 @@
--- A point lies in a closed cell exactly when the closed form's weights are natural numbers, and then those are its weights. Along entry
--- i, vertex 0 and the vertices up to i are at the box's near side, those up to k at its far side, those past both at its middle. So
--- with B n the sum of the first n weights, of sum s in all, and h the larger of i and k, 2 t i + 2 B (i + 1) = s + B (h + 1): that
--- holds exactly for B (i + 1) = s - t i - t h.
-use mathlib.Core.Path.{_≡_, refl, sym, ap, _∙_, subst}
-use mathlib.Core.Bool.{Bool, true, false, cond, not}
+-- A point lies in a closed cell exactly when the closed form's weights are natural numbers, and then those are its weights. With B n the
+-- sum of the first n weights, of sum s in all, and h the larger of i and k, the mean along entry i says 2 t i + 2 B (i + 1) = s + B (h + 1):
+-- that holds exactly for B (i + 1) = s - t i - t h.
+use mathlib.Core.Path.{_≡_, refl, ap, subst}
+use mathlib.Core.Bool.{Bool, true, false, cond}
 use mathlib.Core.List.{List}
-use Prim.Native.Nat.{ℕ, zero, suc, _+_, _-_, _*_, _/_, _%_, _≤_, _<_}
+use Prim.Native.Nat.{ℕ, zero, suc, _+_, _-_, _*_, _%_, _≤_, _<_}
 use native.Mathlib.Omega.{arith}
 use native.Mathlib.Nat.{le-of-mul-le-mul-left, eq-of-mul-eq-mul-left}
 use native.Mathlib.Decide.{decLe, decLt}
@@ -17,88 +16,26 @@ use Rattle.dimension.specs.Laws.{split-range, side-of}
 use Rattle.bisection.specs.Cells.{Point, coordinate, cellOf}
 use Rattle.bisection.specs.Roots.{GoodRoot}
 use Rattle.bisection.specs.Codes.{axis, minus, nameOf}
-use Rattle.bisection.specs.Theorems.Axis.{closed, closed-near, near}
 use Rattle.bisection.specs.Theorems.Entries.{Signed, Stands, stands}
-use Rattle.bisection.specs.Theorems.Drawn.{Drawn, boxLow, along}
+use Rattle.bisection.specs.Theorems.Drawn.{Drawn, along}
 use Rattle.bisection.specs.Theorems.CodePaths.{some-axes, name-passes}
-use Rattle.bisection.specs.Theorems.Geometry.{closed-form}
-use Rattle.points.specs.Weights.{sumTo, Weighs, Inside}
-use Rattle.points.specs.ClosedForm.{Away, gap, entryOf, startAt, pointAt, distance, weightAt, closedWeights, Natural}
-use Rattle.points.specs.Theorems.Sums.{sum-same, sum-add, sum-scale, sum-rises}
-use Rattle.points.specs.Theorems.Axes.{mean, Axes, axes-list, weighs-axes}
-use Rattle.points.specs.Theorems.RootCells.{mean-past}
+use Rattle.bisection.specs.Theorems.Geometry.{closed-form, Moves}
+use Rattle.bisection.specs.Weights.{sumTo, Weighs, Inside}
+use Rattle.bisection.specs.Theorems.Weights.Sums.{sum-rises}
+use Rattle.bisection.specs.Theorems.Weights.Axes.{mean, Axes, axes-list, weighs-axes}
+use Rattle.bisection.specs.Theorems.Weights.Offsets.{top, offset, offset-mean, mean-along}
+use Rattle.points.specs.ClosedForm.{gap, entryOf, startAt, pointAt, distance, weightAt, closedWeights, Natural}
 use Rattle.points.specs.Theorems.Cells.{weights-one}
 use Rattle.points.specs.Theorems.BoxWeights.{box-weights}
 
--- the larger of two places
-abbrev top : ℕ → ℕ → ℕ
-top i k = i + (k - i)
-
--- how far vertex j lies from the near side along entry i
-offset : ℕ → ℕ → ℕ → ℕ → ℕ
-offset s i k j = cond (leb j i) 0 (cond (leb j k) s (s / 2))
-
--- nothing up to place i, c past it
-after : ℕ → ℕ → ℕ → ℕ
-after c i j = cond (leb j i) 0 c
-
-offset-twice : (s i k d j : ℕ) → (k < d → s % 2 ≡ 0) → j ≤ d → 2 * offset s i k j + after s (top i k) j ≡ after (2 * s) i j
-unfolding offset after
-offset-twice s i k d j even l = go (decLe j i) (decLe j k)
-  where
-    go : Dec (j ≤ i) → Dec (j ≤ k) → 2 * cond (leb j i) 0 (cond (leb j k) s (s / 2)) + cond (leb j (top i k)) 0 s ≡ cond (leb j i) 0 (2 * s)
-    go (yes a) b = let h : j ≤ top i k = omega arith in simp le-leb
-    go (no a) (yes b) = let h : j ≤ top i k = omega arith in let g : i < j = omega arith in simp (lt-leb, le-leb) (omega arith)
-    go (no a) (no b) = let h : top i k < j = omega arith in let g : i < j = omega arith in let f : k < j = omega arith in simp lt-leb (omega (arith, even (omega arith)))
-
-after-mean : (c n i : ℕ) (w : ℕ → ℕ) → i < n → sumTo n (λ j. w j * after c i j) + c * sumTo (suc i) w ≡ c * sumTo n w
-unfolding after
-after-mean c n i w l = mean-past c n i w (after c i) l (λ j h. simp le-leb) (λ j h m. simp lt-leb)
-
--- the offsets, weighed
-offset-mean : (s i k d : ℕ) (w : ℕ → ℕ) → (k < d → s % 2 ≡ 0) → i ≤ d → k ≤ d
-    → 2 * mean d w (offset s i k) + 2 * (s * sumTo (suc i) w) ≡ s * sumTo (suc d) w + s * sumTo (suc (top i k)) w
-offset-mean s i k d w even id kd = omega (
-  arith,
-  after-mean s (suc d) (top i k) w (omega arith),
-  after-mean (2 * s) (suc d) i w (omega arith),
-  sum-same (suc d) (λ j. w j * after (2 * s) i j) (λ j. 2 * (w j * offset s i k j) + w j * after s (top i k) j)
-      (λ j l. ap (λ (x : ℕ). w j * x) (sym (offset-twice s i k d j even (omega arith))) ∙ omega arith),
-  sum-add (suc d) (λ j. 2 * (w j * offset s i k j)) (λ j. w j * after s (top i k) j),
-  sum-scale 2 (suc d) (λ j. w j * offset s i k j),
-)
-
--- a coordinate is its offset away from the near side; so is a mean of coordinates
-closed-away : (lo s : ℕ) (m : Bool) (i k d j : ℕ) → (k < d → s % 2 ≡ 0) → j ≤ d → Away m (near lo s m) (offset s i k j) (closed lo s m i k j)
-unfolding offset closed
-closed-away lo s m i k d j even l = go m (decLe j i) (decLe j k)
-  where
-    go : (m : Bool) → Dec (j ≤ i) → Dec (j ≤ k) → Away m (near lo s m) (cond (leb j i) 0 (cond (leb j k) s (s / 2))) (cond (leb j i) (near lo s m) (cond (leb j k) (near lo s (not m)) (lo + s / 2)))
-    go m (yes a) b = rw (le-leb j i a) (same m)
-      where
-        same : (m : Bool) → Away m (near lo s m) 0 (near lo s m)
-        same false = omega arith
-        same true = omega arith
-    go false (no a) (yes b) = let g : i < j = omega arith in rw (lt-leb j i g, le-leb j k b) (omega arith)
-    go true (no a) (yes b) = let g : i < j = omega arith in rw (lt-leb j i g, le-leb j k b) (omega arith)
-    go false (no a) (no b) = let g : i < j = omega arith in let f : k < j = omega arith in rw (lt-leb j i g, lt-leb j k f) (omega arith)
-    go true (no a) (no b) = let g : i < j = omega arith in let f : k < j = omega arith in rw (lt-leb j i g, lt-leb j k f) (omega (arith, even (omega arith)))
-
-mean-away : (m : Bool) (n start : ℕ) (w o x : ℕ → ℕ) → ((j : ℕ) → j < n → Away m start (o j) (x j)) → Away m (start * sumTo n w) (sumTo n (λ j. w j * o j)) (sumTo n (λ j. w j * x j))
-unfolding sumTo
-mean-away false zero start w o x h = omega arith
-mean-away false (suc n) start w o x h = omega (arith, mean-away false n start w o x (λ j l. h j (omega arith)), ap (λ (z : ℕ). w n * z) (h n (omega arith)))
-mean-away true zero start w o x h = omega arith
-mean-away true (suc n) start w o x h = omega (arith, mean-away true n start w o x (λ j l. h j (omega arith)), ap (λ (z : ℕ). w n * z) (h n (omega arith)))
-
 -- from a mean to the point, and back
-gap-away : (m : Bool) (start s o q : ℕ) → 0 < s → Away m (start * s) o (s * q) → Away m start (gap m start q) q × (o ≡ s * gap m start q)
+gap-away : (m : Bool) (start s o q : ℕ) → 0 < s → Moves m o (start * s) (s * q) → Moves m (gap m start q) start q × (o ≡ s * gap m start q)
 gap-away false start s o q l h = let g : start ≤ q = le-of-mul-le-mul-left {m = start} {n = q} {k = s} (omega arith) l in let e : q ≡ start + (q - start) = omega arith in
     (e, omega (arith, ap (λ (z : ℕ). s * z) e))
 gap-away true start s o q l h = let g : q ≤ start = le-of-mul-le-mul-left {m = q} {n = start} {k = s} (omega arith) l in let e : start ≡ q + (start - q) = omega arith in
     (e, omega (arith, ap (λ (z : ℕ). s * z) e))
 
-away-point : (m : Bool) (start s t x q : ℕ) → Away m (start * s) (s * t) x → Away m start t q → x ≡ s * q
+away-point : (m : Bool) (start s t x q : ℕ) → Moves m (s * t) (start * s) x → Moves m t start q → x ≡ s * q
 away-point false start s t x q h e = omega (arith, ap (λ (z : ℕ). s * z) e)
 away-point true start s t x q h e = omega (arith, ap (λ (z : ℕ). s * z) e)
 
@@ -149,15 +86,9 @@ module _ (root path : List ℕ) (good : GoodRoot root) (deep : length path ≤ g
   x : ℕ → ℕ → ℕ
   x i j = along (cellOf root path) (axis (entryOf root path i)) j
 
-  x-away : (i : ℕ) → i < d → (j : ℕ) → j < suc d → Away (sign i) (start i) (offset s i k j) (x i j)
+  means-away : (w : ℕ → ℕ) → sumTo (suc d) w ≡ s → (i : ℕ) → i < d → Moves (sign i) (mean d w (offset s i k)) (start i * s) (mean d w (x i))
   unfolding d k s x
-  x-away i l j h = rw (drawn .reads i l j (omega arith), drawn .reads i l 0 (omega arith), closed-near lo s (sign i) i k 0 (omega arith)) (closed-away lo s (sign i) i k d j even (omega arith))
-    where
-      lo : ℕ
-      lo = boxLow (axis (entryOf root path i)) 0 (nameOf root path .orthants)
-
-  means-away : (w : ℕ → ℕ) → sumTo (suc d) w ≡ s → (i : ℕ) → i < d → Away (sign i) (start i * s) (mean d w (offset s i k)) (mean d w (x i))
-  means-away w e i l = rw e at (mean-away (sign i) (suc d) (start i) w (offset s i k) (x i) (x-away i l))
+  means-away w e i l = rw e at (mean-along d0 deep drawn i l w)
 
   t-is : (i : ℕ) → i < d → t i ≡ gap (sign i) (start i) (q i)
   unfolding d t distance
@@ -169,7 +100,7 @@ module _ (root path : List ℕ) (good : GoodRoot root) (deep : length path ≤ g
 
   -- weights of sum s tell the distances
   module _ (w : ℕ → ℕ) (h : Axes d (along (cellOf root path)) p s w) where
-    along-entry : (i : ℕ) → i < d → Away (sign i) (start i) (t i) (q i) × (mean d w (offset s i k) ≡ s * t i)
+    along-entry : (i : ℕ) → i < d → Moves (sign i) (t i) (start i) (q i) × (mean d w (offset s i k) ≡ s * t i)
     unfolding x d
     along-entry i l = rw (t-is i l) (gap-away (sign i) (start i) s (mean d w (offset s i k)) (q i) s0
         (rw (h .means (axis (entryOf root path i)) (signed .low i l) (signed .high i l)) at (means-away w (h .sum) i l)))

@@ -12,9 +12,10 @@ use borrow.Author.Tests.{eq-eqb, ne-eqb, lt-ltb, le-ltb}
 use Rattle.bisection.specs.Cells.{Point, Cell, child}
 use Rattle.bisection.specs.Theorems.Axis.{mid, row0, row0-at, row0-other, row1, row1-before, row1-at, row1-past, Order, order, under, same, over}
 use Rattle.bisection.specs.Theorems.Drawn.{Sized, along, child0-along, child1-along}
-use Rattle.points.specs.Weights.{sumTo}
-use Rattle.points.specs.Theorems.Sums.{sum-same, sum-scale, only, only-at, only-other, sum-moved, turn, turn-before, turn-at, turn-past, sum-turn}
-use Rattle.points.specs.Theorems.Axes.{mean, Axes, mean-same}
+use Rattle.bisection.specs.Weights.{sumTo}
+use Rattle.bisection.specs.Theorems.Weights.Sums.{sum-same, sum-scale, only, only-at, only-other}
+use Rattle.bisection.specs.Theorems.Weights.Axes.{mean, Axes, mean-same}
+use Rattle.points.specs.Theorems.Sums.{sum-moved, turn, turn-before, turn-at, turn-past, sum-turn}
 
 -- the weights in the cell
 unfoldable pub up : ℕ → ℕ → (ℕ → ℕ) → ℕ → ℕ
@@ -27,31 +28,31 @@ row zero k r = row0 k r
 row (suc b) k r = row1 k r
 
 module _ (b k : ℕ) (k1 : 1 ≤ k) (u : ℕ → ℕ) where
-  pub low-first : up 0 k u 0 ≡ 2 * u 0 + u k
+  low-first : up 0 k u 0 ≡ 2 * u 0 + u k
   unfolding up
   low-first = refl
 
-  pub low-last : up 0 k u k ≡ u k
+  low-last : up 0 k u k ≡ u k
   unfolding up
   low-last = let e : k ≡ 0 → ⊥ = omega arith in simp (ne-eqb, eq-eqb)
 
-  pub low-other : (j : ℕ) → (j ≡ 0 → ⊥) → (j ≡ k → ⊥) → up 0 k u j ≡ 2 * u j
+  low-other : (j : ℕ) → (j ≡ 0 → ⊥) → (j ≡ k → ⊥) → up 0 k u j ≡ 2 * u j
   unfolding up
   low-other j e f = simp ne-eqb
 
-  pub high-first : up (suc b) k u 0 ≡ u k
+  high-first : up (suc b) k u 0 ≡ u k
   unfolding up
   high-first = refl
 
-  pub high-last : up (suc b) k u k ≡ 2 * u (k - 1) + u k
+  high-last : up (suc b) k u k ≡ 2 * u (k - 1) + u k
   unfolding up
   high-last = let e : k ≡ 0 → ⊥ = omega arith in simp (ne-eqb, eq-eqb)
 
-  pub high-before : (j : ℕ) → suc j < k → up (suc b) k u (suc j) ≡ 2 * u j
+  high-before : (j : ℕ) → suc j < k → up (suc b) k u (suc j) ≡ 2 * u j
   unfolding up
   high-before j l = let e : suc j ≡ k → ⊥ = omega arith in let f : suc j ≡ 0 → ⊥ = omega arith in let g : suc j - 1 ≡ j = omega arith in simp (ne-eqb, lt-ltb, g)
 
-  pub high-past : (j : ℕ) → k < j → up (suc b) k u j ≡ 2 * u j
+  high-past : (j : ℕ) → k < j → up (suc b) k u j ≡ 2 * u j
   unfolding up
   high-past j l = let e : j ≡ k → ⊥ = omega arith in let f : j ≡ 0 → ⊥ = omega arith in let g : k ≤ j = omega arith in simp (ne-eqb, le-ltb)
 

@@ -1,29 +1,29 @@
 -- The weights of a point in a root's cell. On the axis of the root's entry i the vertices up to i are at 0 and those past it at the
 -- cube's side, so what weighs the vertices up to i is what lacks to the point's coordinate there: a point lies in the cell exactly
 -- when its coordinates fall along the root, and its weights are their falls.
-use mathlib.Core.Path.{_≡_, refl, sym, ap, _∙_, subst}
+use mathlib.Core.Path.{_≡_, refl, ap, _∙_, subst}
 use mathlib.Core.Bool.{false, cond}
 use mathlib.Core.List.{List, [], _∷_}
 use Prim.Native.Nat.{ℕ, zero, suc, _+_, _-_, _*_, _≤_, _<_}
 use native.Mathlib.Omega.{arith}
-use native.Mathlib.Nat.{le-of-mul-le-mul-left, eq-of-mul-eq-mul-left, mul-le-mul-left, zero-add}
-use native.Mathlib.Decide.{decLe, decLt, ℕ-discrete}
+use native.Mathlib.Nat.{le-of-mul-le-mul-left, mul-le-mul-left, zero-add}
+use native.Mathlib.Decide.{decLe, decLt}
 use lib.Dec.{leb}
 use lib.ListN.{length, getD}
 use borrow.Author.Tests.{le-leb, lt-leb}
-use Rattle.dimension.specs.Sizes.{cubeSide, boxSide}
-use Rattle.dimension.specs.Laws.{at-root, side-first, side-pos}
+use Rattle.dimension.specs.Sizes.{cubeSide}
+use Rattle.dimension.specs.Laws.{side-first, side-pos}
 use Rattle.bisection.specs.Cells.{Point, coordinate, rootCell, cellBelow, cellOf}
 use Rattle.bisection.specs.Roots.{GoodRoot}
-use Rattle.bisection.specs.Codes.{axis, minus, rootName, nameBelow, nameOf}
-use Rattle.bisection.specs.Theorems.Axis.{closed, closed-near, closed-far}
+use Rattle.bisection.specs.Codes.{nameBelow, nameOf}
+use Rattle.bisection.specs.Theorems.Axis.{closed-near, closed-far}
 use Rattle.bisection.specs.Theorems.Entries.{Signed, Stands, stands}
-use Rattle.bisection.specs.Theorems.Drawn.{Drawn, boxLow, along, drawn-root}
-use Rattle.bisection.specs.Theorems.Paths.{plain-minus, plain-axis}
-use Rattle.bisection.specs.Theorems.CodePaths.{some-axes, few-axes, name-passes}
-use Rattle.points.specs.Weights.{sumTo, Inside}
-use Rattle.points.specs.Theorems.Sums.{sum-rises}
-use Rattle.points.specs.Theorems.Axes.{mean, Axes, weighs-axes, axes-inside}
+use Rattle.bisection.specs.Theorems.Drawn.{along}
+use Rattle.bisection.specs.Theorems.CodePaths.{some-axes, name-passes}
+use Rattle.bisection.specs.Theorems.Geometry.{root-axis, root-drawn, root-reads}
+use Rattle.bisection.specs.Weights.{sumTo, Inside}
+use Rattle.bisection.specs.Theorems.Weights.Sums.{sum-rises, mean-past}
+use Rattle.bisection.specs.Theorems.Weights.Axes.{mean, Axes, weighs-axes, axes-inside}
 
 -- v falls along a list, from b on
 pub data Falls (v : ℕ → ℕ) : ℕ → List ℕ → Type 0 where
@@ -63,22 +63,6 @@ height p root (suc j) = cond (leb (suc j) (length root)) (coordinate p (getD roo
 abbrev pub rootWeight : Point → List ℕ → ℕ → ℕ
 rootWeight p root j = height p root j - height p root (suc j)
 
--- what weighs the vertices past place i
-pub mean-past : (S n i : ℕ) (w x : ℕ → ℕ) → i < n → ((j : ℕ) → j ≤ i → x j ≡ 0) → ((j : ℕ) → i < j → j < n → x j ≡ S)
-    → sumTo n (λ j. w j * x j) + S * sumTo (suc i) w ≡ S * sumTo n w
-unfolding sumTo
-mean-past S zero i w x l a b = absurd (omega arith)
-mean-past S (suc n) i w x l a b = go (ℕ-discrete n i) (mean-past S n i w x)
-  where
-    none : (n : ℕ) → n ≤ suc i → sumTo n (λ j. w j * x j) ≡ 0
-    none zero h = refl
-    none (suc n) h = rw (a n (omega arith)) (omega (arith, none n (omega arith)))
-
-    go : Dec (n ≡ i) → (i < n → ((j : ℕ) → j ≤ i → x j ≡ 0) → ((j : ℕ) → i < j → j < n → x j ≡ S) → sumTo n (λ j. w j * x j) + S * sumTo (suc i) w ≡ S * sumTo n w)
-        → sumTo (suc n) (λ j. w j * x j) + S * sumTo (suc i) w ≡ S * sumTo (suc n) w
-    go (yes e) t = rw e (omega (arith, none (suc i) (omega arith)))
-    go (no e) t = rw (b n (omega arith) (omega arith)) (omega (arith, t (omega arith) a (λ j h m. b j h (omega arith))))
-
 pub side-some : 0 < cubeSide
 side-some = rw (← side-first) (side-pos 0 (omega arith))
 
@@ -86,45 +70,14 @@ module _ (root : List ℕ) (good : GoodRoot root) where
   d0 : 0 < length root
   d0 = some-axes (good .dimension)
 
-  plain : (i : ℕ) → i < length root → minus (getD root i 0) ≡ false
-  plain i l = plain-minus (getD root i 0) (omega (arith, few-axes (good .dimension), good .permutation .high i l))
-
-  own : (i : ℕ) → i < length root → getD root i 0 ≡ axis (getD root i 0)
-  own i l = sym (plain-axis (getD root i 0) (plain i l))
-
-  drawn : Drawn (length root) 0 (rootName root) (rootCell root)
-  drawn = drawn-root root d0 (few-axes (good .dimension)) (good .permutation)
-
-  reads : (i : ℕ) → i < length root → (j : ℕ) → j ≤ length root → along (rootCell root) (getD root i 0) j ≡ closed 0 cubeSide false i (length root) j
-  unfolding boxLow boxSide
-  reads i l j h = rw (← own i l, plain i l, at-root (length root) d0 .0, at-root (length root) d0 .1, side-first) at (drawn .reads i l j h)
-
   root-mean : (w : ℕ → ℕ) (i : ℕ) → i < length root → mean (length root) w (along (rootCell root) (getD root i 0)) + cubeSide * sumTo (suc i) w ≡ cubeSide * sumTo (suc (length root)) w
   root-mean w i l = mean-past cubeSide (suc (length root)) i w (along (rootCell root) (getD root i 0)) (omega arith)
-      (λ j h. reads i l j (omega arith) ∙ closed-near 0 cubeSide false i (length root) j h)
-      (λ j h m. reads i l j (omega arith) ∙ closed-far 0 cubeSide false i (length root) j h (omega arith) ∙ zero-add cubeSide)
+      (λ j h. root-reads root good i l j (omega arith) ∙ closed-near 0 cubeSide false i (length root) j h)
+      (λ j h m. root-reads root good i l j (omega arith) ∙ closed-far 0 cubeSide false i (length root) j h (omega arith) ∙ zero-add cubeSide)
 
   signed : Signed (length root) root
   unfolding nameOf nameBelow
   signed = name-passes good [] .signed
-
-  -- no two weights give the same sum and the same means
-  pub root-independent : (w u : ℕ → ℕ) → sumTo (suc (length root)) w ≡ sumTo (suc (length root)) u
-      → ((a : ℕ) → 1 ≤ a → a ≤ length root → mean (length root) w (along (rootCell root) a) ≡ mean (length root) u (along (rootCell root) a)) → (j : ℕ) → j ≤ length root → w j ≡ u j
-  unfolding sumTo
-  root-independent w u e m j l = go j l
-    where
-      fronts : (i : ℕ) → i ≤ length root → sumTo (suc i) w ≡ sumTo (suc i) u
-      fronts i h = at (ℕ-discrete i (length root))
-        where
-          at : Dec (i ≡ length root) → sumTo (suc i) w ≡ sumTo (suc i) u
-          at (yes q) = rw q e
-          at (no q) = let h : i < length root = omega arith in eq-of-mul-eq-mul-left cubeSide side-some (sumTo (suc i) w) (sumTo (suc i) u)
-              (omega (arith, root-mean w i h, root-mean u i h, ap (λ (x : ℕ). cubeSide * x) e, m (getD root i 0) (good .permutation .low i h) (good .permutation .high i h)))
-
-      go : (j : ℕ) → j ≤ length root → w j ≡ u j
-      go zero h = omega (arith, fronts 0 h)
-      go (suc j) h = omega (arith, fronts j (omega arith), fronts (suc j) h)
 
   module _ (p : Point) where
     abbrev x : ℕ → ℕ
@@ -138,7 +91,7 @@ module _ (root : List ℕ) (good : GoodRoot root) where
     axes-by {W} {w} s h = record { sum = s; means = λ a l u. go a (stands signed a l u) }
       where
         go : (a : ℕ) → Stands root a (length root) → mean (length root) w (along (rootCell root) a) ≡ W * coordinate p a
-        go a t = subst (λ (a : ℕ). mean (length root) w (along (rootCell root) a) ≡ W * coordinate p a) (own (t .place) (t .below) ∙ t .is)
+        go a t = subst (λ (a : ℕ). mean (length root) w (along (rootCell root) a) ≡ W * coordinate p a) (root-axis root good (t .place) (t .below) ∙ t .is)
             (omega (arith, root-mean w (t .place) (t .below), h (t .place) (t .below), ap (λ (z : ℕ). cubeSide * z) s))
 
     -- a point of the cell has coordinates that fall along the root
@@ -184,7 +137,7 @@ module _ (root : List ℕ) (good : GoodRoot root) where
     module _ (dims : length p ≡ length root) where
       pub inside-falls : Inside (cellOf root []) p → Falls (coordinate p) cubeSide root
       unfolding cellOf cellBelow
-      inside-falls h = axes-falls (h .some) (weighs-axes (drawn .sized) dims (h .weighs))
+      inside-falls h = axes-falls (h .some) (weighs-axes (root-drawn root good .sized) dims (h .weighs))
 
       pub falls-axes : Falls (coordinate p) cubeSide root → Axes (length root) (along (cellOf root [])) p cubeSide (rootWeight p root)
       unfolding cellOf cellBelow
@@ -192,4 +145,4 @@ module _ (root : List ℕ) (good : GoodRoot root) where
 
       pub falls-inside : Falls (coordinate p) cubeSide root → Inside (cellOf root []) p
       unfolding cellOf cellBelow
-      falls-inside f = axes-inside (drawn .sized) dims side-some (root-axes f)
+      falls-inside f = axes-inside (root-drawn root good .sized) dims side-some (root-axes f)

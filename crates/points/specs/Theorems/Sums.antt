@@ -1,67 +1,13 @@
--- Sums: of equal terms, of multiples, of terms that moved.
+-- Sums of terms that moved.
 use mathlib.Core.Path.{_≡_, refl}
 use mathlib.Core.Bool.{cond}
-use Prim.Native.Nat.{ℕ, zero, suc, _+_, _-_, _*_, _≤_, _<_}
+use Prim.Native.Nat.{ℕ, zero, suc, _+_, _≤_, _<_}
 use native.Mathlib.Omega.{arith}
 use native.Mathlib.Decide.{ℕ-discrete}
 use lib.Dec.{eqb, ltb}
 use borrow.Author.Tests.{eq-eqb, ne-eqb, lt-ltb, le-ltb}
-use Rattle.points.specs.Weights.{sumTo}
-
-pub sum-same : (n : ℕ) (f g : ℕ → ℕ) → ((j : ℕ) → j < n → f j ≡ g j) → sumTo n f ≡ sumTo n g
-unfolding sumTo
-sum-same zero f g e = refl
-sum-same (suc n) f g e = omega (arith, sum-same n f g (λ j l. e j (omega arith)), e n (omega arith))
-
-pub sum-add : (n : ℕ) (f g : ℕ → ℕ) → sumTo n (λ j. f j + g j) ≡ sumTo n f + sumTo n g
-unfolding sumTo
-sum-add zero f g = refl
-sum-add (suc n) f g = omega (arith, sum-add n f g)
-
-pub sum-scale : (c n : ℕ) (f : ℕ → ℕ) → sumTo n (λ j. c * f j) ≡ c * sumTo n f
-unfolding sumTo
-sum-scale c zero f = omega arith
-sum-scale c (suc n) f = omega (arith, sum-scale c n f)
-
--- the first sums rise
-pub sum-rises : (f : ℕ → ℕ) (m n : ℕ) → m ≤ n → sumTo m f ≤ sumTo n f
-unfolding sumTo
-sum-rises f m zero l = let e : m ≡ 0 = omega arith in rw e (omega arith)
-sum-rises f m (suc n) l = go (ℕ-discrete m (suc n)) (sum-rises f m n)
-  where
-    go : Dec (m ≡ suc n) → (m ≤ n → sumTo m f ≤ sumTo n f) → sumTo m f ≤ sumTo (suc n) f
-    go (yes e) t = rw e (omega arith)
-    go (no e) t = omega (arith, t (omega arith))
-
-pub term-most : (f : ℕ → ℕ) (n j : ℕ) → j < n → f j ≤ sumTo n f
-unfolding sumTo
-term-most f n j l = omega (arith, sum-rises f (suc j) n l)
-
--- c at place i, nothing elsewhere
-unfoldable pub only : ℕ → ℕ → ℕ → ℕ
-only i c j = cond (eqb j i) c 0
-
-module _ (i c j : ℕ) where
-  pub only-at : j ≡ i → only i c j ≡ c
-  unfolding only
-  only-at e = simp eq-eqb
-
-  pub only-other : (j ≡ i → ⊥) → only i c j ≡ 0
-  unfolding only
-  only-other e = simp ne-eqb
-
-sum-only : (n i c : ℕ) → i < n → sumTo n (only i c) ≡ c
-unfolding sumTo
-sum-only zero i c l = absurd (omega arith)
-sum-only (suc n) i c l = go (ℕ-discrete n i) (sum-only n i c)
-  where
-    none : (n : ℕ) → n ≤ i → sumTo n (only i c) ≡ 0
-    none zero h = refl
-    none (suc n) h = omega (arith, none n (omega arith), only-other i c n (omega arith))
-
-    go : Dec (n ≡ i) → (i < n → sumTo n (only i c) ≡ c) → sumTo n (only i c) + only i c n ≡ c
-    go (yes e) t = omega (arith, only-at i c n e, none n (omega arith))
-    go (no e) t = omega (arith, only-other i c n e, t (omega arith))
+use Rattle.bisection.specs.Weights.{sumTo}
+use Rattle.bisection.specs.Theorems.Weights.Sums.{sum-same, sum-add, only, sum-only}
 
 -- what is taken off at one place and put on at another changes no sum
 pub sum-moved : (n i h c : ℕ) (f g : ℕ → ℕ) → i < n → h < n → ((j : ℕ) → j < n → f j + only i c j ≡ g j + only h c j) → sumTo n f ≡ sumTo n g

@@ -10,9 +10,9 @@ use lib.ListN.{length, getD}
 use Rattle.dimension.specs.Sizes.{greatestDepth}
 use Rattle.bisection.specs.Cells.{Point, cellOf}
 use Rattle.bisection.specs.Roots.{GoodRoot, roots}
+use Rattle.bisection.specs.Weights.{Inside}
 use Rattle.positions.specs.RootNumbers.{roots-good, roots-length}
 use Rattle.sheets.specs.Sheets.{GoodSheet}
-use Rattle.points.specs.Weights.{Inside}
 use Rattle.points.specs.Points.{InCube}
 use Rattle.points.specs.Theorems.Cells.{one-longer, halves, decInside}
 use Rattle.ways.specs.Ways.{Way}

@@ -10,11 +10,11 @@ use lib.ListN.{length, getD, length-append}
 use Rattle.dimension.specs.Sizes.{isDimension, greatestDepth}
 use Rattle.bisection.specs.Cells.{Point, cellOf}
 use Rattle.bisection.specs.Roots.{GoodRoot, roots}
+use Rattle.bisection.specs.Weights.{Inside}
 use Rattle.sheets.specs.Forests.{TreeCell, treeCell, childOf, Tree, leaf, node, leaves, Forest, more, rootCells, NoDeeper, no-deeper-more, Leaves}
 use Rattle.sheets.specs.Sheets.{leafIn}
 use Rattle.sheets.specs.Theorems.Todo.{within-front}
 use Rattle.sheets.specs.Theorems.Listing.{RootsIn, roots-more, roots-in}
-use Rattle.points.specs.Weights.{Inside}
 use Rattle.points.specs.Roots.{FirstRoot}
 use Rattle.points.specs.Theorems.Cells.{in-parent, inside-above}
 use Rattle.ways.specs.Ways.{Way}

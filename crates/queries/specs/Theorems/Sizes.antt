@@ -11,13 +11,13 @@ use lib.Pow.{pow-pos}
 use Rattle.dimension.specs.Sizes.{isDimension, greatestDepth}
 use Rattle.bisection.specs.Cells.{Point, cellOf}
 use Rattle.bisection.specs.Roots.{roots}
+use Rattle.bisection.specs.Weights.{Inside}
 use Rattle.positions.specs.Positions.{startOf, sizeOf}
 use Rattle.positions.specs.RootNumbers.{numberIn, roots-number}
 use Rattle.sheets.specs.Forests.{TreeCell, Leaves}
 use Rattle.sheets.specs.Sheets.{leafIn}
 use Rattle.sheets.specs.Theorems.Tiles.{leaves-tile}
 use Rattle.finding.specs.Sizes.{sizesTo, sizes-rise, sizes-one, tiles-sum, start-joined}
-use Rattle.points.specs.Weights.{Inside}
 use Rattle.ways.specs.Ways.{Way, LocatedIs}
 use Rattle.ways.specs.declared.Located.{Located}
 use Rattle.queries.specs.Queries.{LeafAt}

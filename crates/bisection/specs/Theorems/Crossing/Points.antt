@@ -72,6 +72,11 @@ module _ (vs : Cell) (i : ℕ) (h : i < length vs) where
       q : Found [] v (facet i vs)
       q = mem-place [] m
 
+-- facets whose vertices are the same, place by place
+pub same-facet : {d : ℕ} (vs ws : Cell) (i j : ℕ) → length vs ≡ suc d → length ws ≡ suc d → i ≤ d → j ≤ d → ((t : ℕ) → t < d → vertex vs (skip i t) ≡ vertex ws (skip j t)) → facet i vs ≡ facet j ws
+same-facet vs ws i j size size' il jl h = ext-getD [] (facet i vs) (facet j ws) (omega (arith, facet-length vs i (omega arith), facet-length ws j (omega arith)))
+    (λ t l. facet-at vs i (omega arith) t ∙ h t (omega (arith, facet-length vs i (omega arith))) ∙ sym (facet-at ws j (omega arith) t))
+
 -- a facet is part of its cell
 pub facet-part : {v : Point} (vs : Cell) (i : ℕ) → i < length vs → List·Memᴰ v (facet i vs) → List·Memᴰ v vs
 facet-part {v} vs i h m = let q : OtherPlace v i vs = mem-facet vs i h m in Memᴰ·cast (q .is) (place-mem [] vs (q .place) (q .below))
@@ -101,14 +106,7 @@ module _ {d k s : ℕ} {vs ws : Cell} {c c' : Frame} (s0 : 0 < s) (r : Scaled d 
   facet-has i il h j l n = mem-among j l (h (vertex vs j) (facet-mem vs i (omega (arith, r .sized .size)) j (omega (arith, r .sized .size)) n))
 
   pub same-facets : (i j : ℕ) → i ≤ d → j ≤ d → ((t : ℕ) → t < d → Meets d k c (skip i t) c' (skip j t)) → facet i vs ≡ facet j ws
-  same-facets i j il jl h = ext-getD [] (facet i vs) (facet j ws) (omega (arith, r .sized .size, r' .sized .size, facet-length vs i li, facet-length ws j lj))
-      (λ t l. let q : t < d = omega (arith, r .sized .size, facet-length vs i li) in facet-at vs i li t ∙ meets-same (skip i t) (skip j t) (skip-in i t q) (skip-in j t q) (h t q) ∙ sym (facet-at ws j lj t))
-    where
-      li : i < length vs
-      li = omega (arith, r .sized .size)
-
-      lj : j < length ws
-      lj = omega (arith, r' .sized .size)
+  same-facets i j il jl h = same-facet vs ws i j (r .sized .size) (r' .sized .size) il jl (λ t l. meets-same (skip i t) (skip j t) (skip-in i t l) (skip-in j t l) (h t l))
 
   pub same-cells : ((a : ℕ) → a < d → SameAt c c' a) → vs ≡ ws
   same-cells h = ext-getD [] vs ws (r .sized .size ∙ sym (r' .sized .size)) (λ j l. let t : j ≤ d = omega (arith, r .sized .size) in meets-same j j t t (λ a la. rw (h a la .at, h a la .near, h a la .far) refl))

@@ -35,6 +35,16 @@ module _ (i t : ℕ) where
       go (yes h) = rw (skip-before h) (omega arith)
       go (no h) = let q : i ≤ t = omega arith in rw (skip-past q) l
 
+-- no place is met twice
+pub skip-one : (i t t' : ℕ) → skip i t ≡ skip i t' → t ≡ t'
+skip-one i t t' e = go (decLt t i) (decLt t' i)
+  where
+    go : Dec (t < i) → Dec (t' < i) → t ≡ t'
+    go (yes h) (yes h') = omega (arith, skip-before i t h, skip-before i t' h')
+    go (yes h) (no h') = omega (arith, skip-before i t h, skip-past i t' (omega arith))
+    go (no h) (yes h') = omega (arith, skip-past i t (omega arith), skip-before i t' h')
+    go (no h) (no h') = omega (arith, skip-past i t (omega arith), skip-past i t' (omega arith))
+
 -- every other place is met
 pub record Skipped (d i u : ℕ) : Type 0 where
   pub from : ℕ

@@ -1,15 +1,14 @@
 -- Weights as a function of the place, one axis at a time: what proofs use for the list of a reader.
 use mathlib.Core.Path.{_≡_, refl, sym, ap, _∙_}
-use mathlib.Core.List.{List}
+use mathlib.Core.List.{List, [], _∷_}
 use Prim.Native.Nat.{ℕ, zero, suc, _*_, _≤_, _<_}
 use native.Mathlib.Omega.{arith}
 use native.Mathlib.Decide.{decLt}
 use lib.ListN.{length, getD, List·getD-eq-default}
 use Rattle.bisection.specs.Cells.{Point, Cell, coordinate}
+use Rattle.bisection.specs.Weights.{sumTo, total, weighted, Weighs, Inside}
 use Rattle.bisection.specs.Theorems.Drawn.{Sized, along}
-use Rattle.points.specs.Weights.{sumTo, total, weighted, Weighs, Inside}
-use Rattle.points.specs.ClosedForm.{listOf}
-use Rattle.points.specs.Theorems.Sums.{sum-same, term-most}
+use Rattle.bisection.specs.Theorems.Weights.Sums.{sum-same, term-most}
 
 -- the weighted sum of what stands at the places up to d
 abbrev pub mean : ℕ → (ℕ → ℕ) → (ℕ → ℕ) → ℕ
@@ -30,7 +29,11 @@ axes-same {d} {y} w u e h = record {
   means = λ a l m. sym (sum-same (suc d) (λ j. w j * y a j) (λ j. u j * y a j) (λ j l. ap (λ (x : ℕ). x * y a j) (e j (omega arith)))) ∙ h .means a l m;
 }
 
--- the list of a function's values
+-- a function as the list of its values
+unfoldable pub listOf : ℕ → (ℕ → ℕ) → List ℕ
+listOf zero f = []
+listOf (suc n) f = f 0 ∷ listOf n (λ j. f (suc j))
+
 pub list-length : (n : ℕ) (f : ℕ → ℕ) → length (listOf n f) ≡ n
 unfolding listOf
 list-length zero f = refl

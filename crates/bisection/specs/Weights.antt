@@ -1,9 +1,10 @@
--- Document 01, "Sheets": whole weights of a point in a cell, and the closed cell. The cells are those of the bisection.
+-- Document 01, "Sheets": whole weights of a point in a cell, and the closed cell. The same of any list of points: request No. 5's
+-- facets that lie inside facets.
 use mathlib.Core.Path.{_≡_}
-use mathlib.Core.List.{List}
+use mathlib.Core.List.{List, List·Memᴰ}
 use Prim.Native.Nat.{ℕ, zero, suc, _+_, _*_, _≤_, _<_}
 use lib.ListN.{length, getD}
 use Rattle.bisection.specs.Cells.{Point, Cell, coordinate, vertex}
 
 -- f 0 + .. + f (n - 1)
 unfoldable pub sumTo : ℕ → (ℕ → ℕ) → ℕ
@@ -31,3 +32,7 @@ pub record Inside (vs : Cell) (p : Point) : Type 0 where
   pub some : 0 < W
   pub ws : List ℕ
   pub weighs : Weighs vs p W ws
+
+-- points lie inside points: each of the first is such a mean of the second
+abbrev pub LiesInside : List Point → List Point → Type 0
+LiesInside inner outer = (v : Point) → List·Memᴰ v inner → Inside outer v
