@@ -12,6 +12,7 @@ pub mod crossing; // "Crossing", by geometry and by listing all cells
 pub mod entries; // the expected outcome of each entry on a code
 pub mod finder; // the root and the path of a code, by search
 pub mod forests; // good sheets, as leaves of random forests
+pub mod hulls; // points between others, by elimination
 pub mod inputs; // good, damaged and random inputs
 pub mod lent; // lent outputs and the comparison of outcomes
 pub mod listing; // "The listing program": the text of a sheet
@@ -21,5 +22,5 @@ pub mod queries; // "Sheets": the leaf and the grey value at a point
 pub mod random; // a repeatable source of numbers
 pub mod sheets; // "Sheets": records, and the forest that they are the leaves of
 pub mod sizes; // sizes and refusal numbers
-pub mod weighing; // "Sheets": a point's weights in a cell, by elimination; fractions as binary64
+pub mod weighing; // "Sheets": a point's weights in a cell; fractions as binary64
 pub mod worked; // the cells worked by hand

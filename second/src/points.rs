@@ -2,9 +2,9 @@
 //! cube.
 
 use crate::bisection::{Cell, Point};
+use crate::hulls::divisor;
 use crate::random::Random;
 use crate::sizes::*;
-use crate::weighing::divisor;
 
 /// Coordinates outside the cube: just so, and with low bytes that look good.
 const OUTSIDE: [u32; 6] = [CUBE_SIDE + 1, CUBE_SIDE + 256, 2 * CUBE_SIDE, 32_768, 65_280, 65_535];

@@ -1,33 +1,19 @@
 //! Document 01, "Sheets": the weights of a point in a cell. The document's equations are solved as they
-//! stand, by elimination in whole numbers over the cell's vertices; nothing of a cell's form is used.
+//! stand, over the cell's vertices; nothing of a cell's form is used.
 
 use crate::bisection::{Cell, Point};
+use crate::hulls::Hull;
 use crate::sizes::*;
 
-/// One equation: factors of the unknown weights, then factors of the point's coordinates and of 1.
-type Row = Vec<i128>;
-
-/// One weight, divided by s, of any point: a factor for each coordinate and one for 1, over a number
-/// above 0.
-struct Form {
-    coordinates: [i128; MOST_AXES],
-    one: i128,
-    over: i128,
-}
-
-/// A cell with its equations solved. The point stands on their right sides alone, so that one
-/// elimination serves all points.
+/// A cell with its equations solved.
 pub struct Weighing {
     cell: Cell,
-    forms: Vec<Form>,
+    hull: Hull,
 }
 
 impl Weighing {
     pub fn new(cell: Cell) -> Weighing {
-        let mut rows = equations(&cell);
-        (0..rows.len()).for_each(|place| eliminate(&mut rows, place));
-        let forms = rows.iter().enumerate().map(|(place, row)| form(row, place, cell.dimension()));
-        Weighing { forms: forms.collect(), cell }
+        Weighing { hull: Hull::new(&cell.vertices, cell.dimension()), cell }
     }
 
     /// The side of the cell's box: the cube is halved on every axis once in d steps.
@@ -37,14 +23,11 @@ impl Weighing {
 
     /// The weights in vertex order, or none if the closed cell has not the point.
     pub fn weights(&self, point: &Point) -> Option<Vec<i128>> {
-        let weight = |form: &Form| {
-            let along = form.coordinates.iter().zip(point).map(|(factor, x)| factor * *x as i128);
-            let above = along.sum::<i128>() + form.one;
-            (above >= 0).then_some((above * self.side(), form.over))
+        let weight = |(above, over): (i128, i128)| {
+            assert!(above * self.side() % over == 0, "a weight is not whole");
+            above * self.side() / over
         };
-        let fractions: Vec<(i128, i128)> = self.forms.iter().map(weight).collect::<Option<_>>()?;
-        assert!(fractions.iter().all(|(above, over)| above % over == 0), "a weight is not whole");
-        let weights = fractions.iter().map(|(above, over)| above / over).collect();
+        let weights = self.hull.weights(point)?.into_iter().map(weight).collect();
         self.hold(&weights, point);
         Some(weights)
     }
@@ -60,44 +43,6 @@ impl Weighing {
             assert_eq!(sum, side * *x as i128);
         }
     }
-}
-
-/// For each axis: the weighted coordinates of the vertices are the point's. And the sum is 1.
-fn equations(cell: &Cell) -> Vec<Row> {
-    let d = cell.dimension();
-    let right = |place: usize| (0..=d).map(move |other| (other == place) as i128);
-    let axis = |a: usize| cell.vertices.iter().map(|v| v[a] as i128).chain(right(a)).collect();
-    let sum = cell.vertices.iter().map(|_| 1).chain(right(d)).collect();
-    (0..d).map(axis).chain([sum]).collect()
-}
-
-/// Leaves the unknown of a place in the row of that place alone.
-fn eliminate(rows: &mut [Row], place: usize) {
-    let with = (place..rows.len()).find(|r| rows[*r][place] != 0).expect("a cell is flat");
-    rows.swap(place, with);
-    let pivot = rows[place].clone();
-    for (_, row) in rows.iter_mut().enumerate().filter(|(r, _)| *r != place) {
-        let factor = row[place];
-        row.iter_mut().zip(&pivot).for_each(|(n, p)| *n = *n * pivot[place] - p * factor);
-        let common = row.iter().fold(0, |common, n| divisor(common, *n));
-        row.iter_mut().for_each(|n| *n /= common);
-    }
-}
-
-/// The greatest common divisor.
-pub fn divisor(a: i128, b: i128) -> i128 {
-    if b == 0 {
-        a.abs()
-    } else {
-        divisor(b, a % b)
-    }
-}
-
-fn form(row: &Row, place: usize, d: usize) -> Form {
-    let sign = row[place].signum();
-    let right = |at: usize| sign * row[d + 1 + at];
-    let coordinates = std::array::from_fn(|a| if a < d { right(a) } else { 0 });
-    Form { coordinates, one: right(d), over: sign * row[place] }
 }
 
 /// Digits of a binary64 after the first, and what its exponent's field has more than the exponent.
