@@ -197,6 +197,10 @@ rmk_written rmk_parent(const uint8_t *code, size_t code_length, uint8_t *out, si
  * \return              The refusal, the place of the new vertex in the cell across (it may differ from
  *                      `facet`), and the code's length.
  *
+ * Beside rmk_child:    let facet j of child b lie inside this facet. Crossing j is refused with FACE
+ *                      exactly where crossing this facet is. Otherwise it gives, with place j, child b of
+ *                      the cell across, or child 1 - b where the place answered here is not `facet`.
+ *
  * Refusals, in order:  those for a code; RMK_REFUSED_STEP (facet above d), FACE, SHORT.
  * Assumed:             each pointer is non-null and valid for its length; `out` does not overlap
  *                      `code`.

@@ -1,4 +1,5 @@
--- What a reader opens first. To be believed are what a row says (Rows), the rows and the claim of Worked, and the claim of Determined.
+-- What a reader opens first. To be believed are what a row says (Rows), the rows and the claim of Worked, and the claims of
+-- Determined, of the demands and of Agree, Caching and ChildFacets.
 -- What a row of worked cells says.
 pub mod Rows
 -- The worked cells of document 01 as rows of one table, and the claim that holds of every row.
