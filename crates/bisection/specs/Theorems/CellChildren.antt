@@ -37,14 +37,14 @@ shorter p q x y e = sym (take-at p (x ∷ []) (length p) refl) ∙ ap (take (len
     size = omega (arith, simp length-append at (ap length e))
 
 -- a path that is not empty has a last step
-pub record Stepped (path : List ℕ) : Type 0 where
+pub record Longer (path : List ℕ) : Type 0 where
   pub front : List ℕ
   pub last : ℕ
   pub is : path ≡ front ++ last ∷ []
 
-pub stepped-path : (b : ℕ) (path : List ℕ) → Stepped (b ∷ path)
-stepped-path b [] = record { front = []; last = b; is = refl }
-stepped-path b (x ∷ path) = let s = stepped-path x path in record { front = b ∷ s .front; last = s .last; is = ap (λ (l : List ℕ). b ∷ l) (s .is) }
+pub longer : (b : ℕ) (path : List ℕ) → Longer (b ∷ path)
+longer b [] = record { front = []; last = b; is = refl }
+longer b (x ∷ path) = let s = longer x path in record { front = b ∷ s .front; last = s .last; is = ap (λ (l : List ℕ). b ∷ l) (s .is) }
 
 -- a good path with a step more, where it is not the deepest
 one-step-more : {d : ℕ} {path : List ℕ} {b : ℕ} → GoodPath d path → b ≤ 1 → length path < greatestDepth d → GoodPath d (path ++ b ∷ [])

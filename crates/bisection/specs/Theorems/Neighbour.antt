@@ -7,7 +7,6 @@ use mathlib.Core.List.{List, [], List·Memᴰ}
 use mathlib.Core.Logic.{_≢_}
 use Prim.Native.Nat.{ℕ, suc, _≤_, _<_}
 use native.Mathlib.Omega.{arith}
-use native.Mathlib.Decide.{ℕ-discrete}
 use lib.Dec.{T}
 use lib.ListN.{length}
 use Rattle.dimension.specs.Sizes.{splitPlace}
@@ -16,7 +15,7 @@ use Rattle.bisection.specs.Codes.{bytes, dimensionOf, depthOf, partsOf}
 use Rattle.bisection.specs.Facets.{facet, InFace, HasAll, IsCell, Shares, Across}
 use Rattle.bisection.specs.Theorems.CodePaths.{rootOf, pathOf}
 use Rattle.bisection.specs.Theorems.Table.{blocked, acrossName, newPlace}
-use Rattle.bisection.specs.Theorems.Crossing.Points.{place-mem, facet-mem, facet-part, facet-at}
+use Rattle.bisection.specs.Theorems.Crossing.Points.{place-mem, facet-part, facet-at, new-place}
 use Rattle.bisection.specs.Theorems.Crossing.Skips.{Skipped, skipped}
 use Rattle.bisection.specs.Theorems.CodeCells.{one-cell}
 use Rattle.bisection.specs.Theorems.Crossing.Coded.{Coded, coded, coded-at, range}
@@ -152,11 +151,8 @@ module _ {code code' : List ℕ} {vs ws : Cell} {i j : ℕ} (c : IsCell code vs)
   size' = found .coded' .drawn .sized .size
 
   pub across-place : j ≡ tablePlace code i
-  across-place = go (ℕ-discrete j (tablePlace code i))
-    where
-      go : Dec (j ≡ tablePlace code i) → j ≡ tablePlace code i
-      go (yes e) = e
-      go (no e) = absurd (across-new (facet-part vs i (omega (arith, size)) (subst (List·Memᴰ (vertex ws j)) (sym (found .facets)) (facet-mem ws (tablePlace code i) (omega (arith, found .within, size')) j (omega (arith, x .place, size')) e))))
+  across-place = new-place vs ws (tablePlace code i) j (omega (arith, found .within, size')) (omega (arith, x .place, size'))
+      (λ v m. facet-part vs i (omega (arith, size)) (subst (List·Memᴰ v) (sym (found .facets)) m)) across-new
 
   -- without their vertices i and j the two cells are the same list in the same order
   pub across-facets : facet i vs ≡ facet j ws
@@ -204,7 +200,8 @@ across-determined {code} {i} {code'} {code''} il x y = (across-code a b il x ∙
     d = y .shares .cell'
 
 -- another cell with all the facet's vertices is the answer, and its new vertex stands at the place but for which it has no other
-pub shares-across : {i : ℕ} {code code' : List ℕ} → i ≤ dimensionOf code → (s : Shares i code code') (j : ℕ) → j ≤ dimensionOf code → HasAll (facet j (s .ws)) (s .vs) → Across code i code' j
+pub shares-across : {i : ℕ} {code code' : List ℕ} → i ≤ dimensionOf code → (s : Shares i code code') (j : ℕ) → j ≤ dimensionOf code → HasAll (facet j (s .ws)) (s .vs)
+    → Across code i code' j
 shares-across {i} {code} {code'} il s j jl h = record { shares = s; only = λ code'' t. a .only code'' t ∙ sym e; place = jl; new = subst (λ (t : ℕ). ¬ List·Memᴰ (vertex (s .ws) t) (s .vs)) at-j new }
   where
     a : Across code i (tableCode code i) (tablePlace code i)
@@ -220,44 +217,9 @@ shares-across {i} {code} {code'} il s j jl h = record { shares = s; only = λ co
     size = shares-coded s .drawn .sized .size
 
     at-j : tablePlace code i ≡ j
-    at-j = go (ℕ-discrete (tablePlace code i) j)
-      where
-        go : Dec (tablePlace code i ≡ j) → tablePlace code i ≡ j
-        go (yes q) = q
-        go (no q) = absurd (new (h (vertex (s .ws) (tablePlace code i)) (facet-mem (s .ws) j (omega (arith, size)) (tablePlace code i) (omega (arith, size, a .place)) q)))
+    at-j = new-place (s .vs) (s .ws) j (tablePlace code i) (omega (arith, size)) (omega (arith, size, a .place)) h new
 
--- the way back: the facet crossed is in no face of the cube, so the table has an answer there, and it is the first cell
-module _ {code code' : List ℕ} {vs ws : Cell} {i j : ℕ} (c : IsCell code vs) (c' : IsCell code' ws) (il : i ≤ dimensionOf code) (x : Across code i code' j) where
-  jl : j ≤ dimensionOf code'
-  jl = rw (← x .shares .dimension) (x .place)
-
-  pub back-not-face : ¬ InFace (dimensionOf code') (facet j ws)
-  back-not-face w = face-alone c' j jl w code (shares-back c c' il x)
-
-  there : Across code' j (tableCode code' j) (tablePlace code' j)
-  there = across-free c' j jl back-not-face
-
-  code-is : code ≡ tableCode code' j
-  code-is = there .only code (shares-back c c' il x)
-
-  back-at : Across code' j code (tablePlace code' j)
-  back-at = subst (λ (y : List ℕ). Across code' j y (tablePlace code' j)) (sym code-is) there
-
-  has : HasAll (facet i vs) ws
-  has = subst (HasAll (facet i vs)) (one-cell (x .shares .cell') c') (shares-has c (x .shares))
-
-  place-is : tablePlace code' j ≡ i
-  place-is = go (ℕ-discrete (tablePlace code' j) i)
-    where
-      room : length vs ≡ suc (dimensionOf code)
-      room = size c c' il x
-
-      go : Dec (tablePlace code' j ≡ i) → tablePlace code' j ≡ i
-      go (yes e) = e
-      go (no e) = absurd (across-new c' c jl back-at (has (vertex vs (tablePlace code' j)) (facet-mem vs i (omega (arith, room)) (tablePlace code' j) (omega (arith, room, there .place, x .shares .dimension)) e)))
-
-  back : Across code' j code i
-  back = subst (Across code' j code) place-is back-at
-
+-- crossing back leads back: the first cell has all vertices of facet j of the second, and its vertex i alone is not the second's
 pub across-back : {code code' : List ℕ} {i j : ℕ} → i ≤ dimensionOf code → Across code i code' j → Across code' j code i
-across-back il x = back (x .shares .cell) (x .shares .cell') il x
+unfolding shares-back
+across-back {i = i} il x = shares-across (rw (← x .shares .dimension) (x .place)) (shares-back (x .shares .cell) (x .shares .cell') il x) i (rw (← x .shares .dimension) il) (x .shares .has)

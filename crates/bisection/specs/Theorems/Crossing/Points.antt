@@ -7,7 +7,7 @@ use mathlib.Core.List.{List, [], _∷_, _++_, List·Memᴰ, List·Memᴰ·head, 
 use Prim.Native.Nat.{ℕ, zero, suc, _+_, _-_, _*_, _≤_, _<_}
 use native.Mathlib.Omega.{arith}
 use native.Mathlib.Nat.{eq-of-mul-eq-mul-left}
-use native.Mathlib.Decide.{decLt}
+use native.Mathlib.Decide.{decLt, ℕ-discrete}
 use lib.ListN.{length, getD, take, drop, length-take, length-drop, length-append, List·getD-append}
 use lib.Seq.{getD-take, getD-drop, getD-append-add, ext-getD}
 use Rattle.dimension.specs.Sizes.{cubeSide}
@@ -80,6 +80,14 @@ same-facet vs ws i j size size' il jl h = ext-getD [] (facet i vs) (facet j ws) 
 -- a facet is part of its cell
 pub facet-part : {v : Point} (vs : Cell) (i : ℕ) → i < length vs → List·Memᴰ v (facet i vs) → List·Memᴰ v vs
 facet-part {v} vs i h m = let q : OtherPlace v i vs = mem-facet vs i h m in Memᴰ·cast (q .is) (place-mem [] vs (q .place) (q .below))
+
+-- where a cell has all points of a facet, a vertex that it has not stands at the place that the facet lacks
+pub new-place : (vs ws : Cell) (j t : ℕ) → j < length ws → t < length ws → HasAll (facet j ws) vs → ¬ List·Memᴰ (vertex ws t) vs → t ≡ j
+new-place vs ws j t jl tl h n = go (ℕ-discrete t j)
+  where
+    go : Dec (t ≡ j) → t ≡ j
+    go (yes e) = e
+    go (no e) = absurd (n (h (vertex ws t) (facet-mem ws j jl t tl e)))
 
 -- a cell of box side s drawn by a frame; axes from 0
 pub record Scaled (d k s : ℕ) (vs : Cell) (c : Frame) : Type 0 where

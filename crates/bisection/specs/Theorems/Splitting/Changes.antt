@@ -1,6 +1,6 @@
 -- Crossing keeps the place, but between siblings. For a cell that has a parent: its facets but one lie inside the parent's, and across
--- those the place is kept; across the one that is left lies the sibling. A root's ends are opposite faces of the cube, and any other
--- place is kept.
+-- those the place is kept; across the one that is left lies the sibling. The facets of a root opposite the ends of its split edge lie in
+-- faces of the cube, and any other place is kept.
 use mathlib.Core.Path.{_≡_, refl, sym, ap, _∙_, subst}
 use mathlib.Core.Bool.{Bool, false}
 use mathlib.Core.List.{List, [], _∷_, _++_, List·Memᴰ}
@@ -20,7 +20,7 @@ use Rattle.bisection.specs.Facets.{facet, InFace, IsCell, Across}
 use Rattle.bisection.specs.Theorems.Axis.{closed-near, closed-far}
 use Rattle.bisection.specs.Theorems.CodePaths.{some-axes, dimension-of-code, depth-of-code, length-root, length-path-of}
 use Rattle.bisection.specs.Theorems.CodeCells.{same-code}
-use Rattle.bisection.specs.Theorems.CellChildren.{cell-of-child, parent-cell, Stepped, stepped-path}
+use Rattle.bisection.specs.Theorems.CellChildren.{cell-of-child, parent-cell, Longer, longer}
 use Rattle.bisection.specs.Theorems.Drawn.{along}
 use Rattle.bisection.specs.Theorems.Geometry.{root-drawn, root-reads}
 use Rattle.bisection.specs.Theorems.Crossing.Points.{OtherPlace, mem-facet}
@@ -130,8 +130,8 @@ module _ {code code' : List ℕ} {i i' : ℕ} (il : i ≤ dimensionOf code) (x :
           face = rw (cell, ← length-root (c .code-of)) (root-face (c .root) (c .code-of .good-root) i (rw last at at-end))
       go (y ∷ path) e = to-sibling parent deep (s .last) small u (ℕ-discrete i (keptAt (s .last) (splitPlace (dimensionOf (codeOf (c .root) (s .front))) (depthOf (codeOf (c .root) (s .front))))))
         where
-          s : Stepped (y ∷ path)
-          s = stepped-path y path
+          s : Longer (y ∷ path)
+          s = longer y path
 
           code-of : IsCodeOf code (c .root) (s .front ++ s .last ∷ [])
           code-of = subst (IsCodeOf code (c .root)) (e ∙ s .is) (c .code-of)

@@ -61,7 +61,7 @@ module _ {code : List ℕ} {vs : Cell} (c : IsCell code vs) (deep : depthOf code
       h : Holder d b k j
       h = holder b k j k1 kd jl n (lacks-in z k kd b)
 
-  -- the child that lacks what child b' keeps has all vertices of child b' but that
+  -- child b', which lacks what child b keeps, has all vertices of child b but that
   shared-has : (b b' : ℕ) → lacks b' k ≡ keeps b k → HasAll (facet (keptAt b k) (child b k vs)) (child b' k vs)
   shared-has b b' e v m = go (ℕ-discrete (p .place) k)
     where
