@@ -19,6 +19,13 @@
 #define POINTS 16             /* that a round of queries asks for */
 #define QUERY_LEAVES 10000
 
+/* The answer of a crossing that does not say where it landed, as an older library gives it. */
+typedef struct {
+    uint8_t refusal;
+    uint8_t place;
+    size_t length;
+} old_crossed;
+
 /* One program's entries. */
 typedef struct {
     uint8_t (*code_check)(const uint8_t *, size_t);
@@ -32,12 +39,21 @@ typedef struct {
     rmk_compatible_answer (*compatible)(const uint8_t *, size_t);
     rmk_leaf_answer (*leaf_at)(const uint8_t *, size_t, const uint8_t *, size_t, uint8_t *, size_t);
     rmk_value_answer (*value_at)(const uint8_t *, size_t, const uint8_t *, size_t);
+    old_crossed (*old_cross)(const uint8_t *, size_t, uint8_t, uint8_t *, size_t);
 } entries;
+
+/* What the old crossing is to answer. It is not measured. */
+static old_crossed plain_old_cross(const uint8_t *code, size_t code_length, uint8_t facet, uint8_t *out, size_t out_length)
+{
+    rmk_crossed across = plain_cross(code, code_length, facet, out, out_length);
+    old_crossed answer = {across.refusal, across.place, across.length};
+    return answer;
+}
 
 static const entries plain = {plain_code_check, plain_path_to_code, plain_code_to_path,
                               plain_vertices,   plain_child,        plain_parent,
                               plain_cross,      plain_sheet_check,  plain_compatible,
-                              plain_leaf_at,    plain_value_at};
+                              plain_leaf_at,    plain_value_at,     plain_old_cross};
 
 /* Plain C that keeps the next cell as a code: the sheet check alone. */
 static const entries by_next = {.sheet_check = plain_sheet_by_next};
@@ -60,7 +76,17 @@ static const entries by_next = {.sheet_check = plain_sheet_by_next};
 #endif
 static const entries ours = {rmk_code_check, rmk_path_to_code, rmk_code_to_path, rmk_vertices,
                              rmk_child,      rmk_parent,       rmk_cross,        rmk_sheet_check,
-                             rmk_compatible, rmk_leaf_at,      rmk_value_at};
+                             rmk_compatible, rmk_leaf_at,      rmk_value_at,     NULL};
+
+/* The library that RMK_OLD_LIBRARY names; bench/run gives its entries these names. */
+#ifdef OLD_LIBRARY
+old_crossed old_rmk_cross(const uint8_t *, size_t, uint8_t, uint8_t *, size_t);
+rmk_written old_rmk_vertices(const uint8_t *, size_t, uint8_t *, size_t);
+#else
+#define old_rmk_cross NULL
+#define old_rmk_vertices NULL
+#endif
+static const entries old = {.vertices = old_rmk_vertices, .old_cross = old_rmk_cross};
 
 /* A random cell. */
 typedef struct {
@@ -308,6 +334,69 @@ static uint64_t cross_round(const entries *e)
     uint8_t out[RMK_LONGEST_CODE] = {0};
     uint64_t sum = 0;
     for (const sample *s = samples; s < samples + CODES; s++) {
+        rmk_crossed across = e->cross(s->code, s->length, s->facet, out, sizeof out);
+        sum += across.place + out[2];
+        sum += across.vertex[0] + across.vertex[1] + across.vertex[2] + across.vertex[3];
+    }
+    return sum;
+}
+
+/* The coordinates of one vertex of a code, as a sum, by all its vertices. */
+static inline uint64_t sum_by_vertices(const entries *e, const uint8_t *code, size_t length, uint8_t place)
+{
+    uint8_t points[RMK_LONGEST_POINTS]; /* all of the cell's are written */
+    const uint8_t *point = points + 2u * code[0] * place;
+    uint64_t sum = 0;
+    e->vertices(code, length, points, sizeof points);
+    for (size_t a = 0; a < code[0]; a++)
+        sum += point[2 * a] + 256u * point[2 * a + 1];
+    return sum;
+}
+
+/* The same sum as the crossing's, by the vertices of the code that it wrote. */
+static uint64_t cross_and_vertices_round(const entries *e)
+{
+    uint8_t out[RMK_LONGEST_CODE] = {0};
+    uint64_t sum = 0;
+    for (const sample *s = samples; s < samples + CODES; s++) {
+        rmk_crossed across = e->cross(s->code, s->length, s->facet, out, sizeof out);
+        sum += across.place + out[2];
+        if (across.refusal == RMK_DONE)
+            sum += sum_by_vertices(e, out, across.length, across.place);
+    }
+    return sum;
+}
+
+static uint64_t old_cross_and_vertices_round(const entries *e)
+{
+    uint8_t out[RMK_LONGEST_CODE] = {0};
+    uint64_t sum = 0;
+    for (const sample *s = samples; s < samples + CODES; s++) {
+        old_crossed across = e->old_cross(s->code, s->length, s->facet, out, sizeof out);
+        sum += across.place + out[2];
+        if (across.refusal == RMK_DONE)
+            sum += sum_by_vertices(e, out, across.length, across.place);
+    }
+    return sum;
+}
+
+/* The old crossing, and ours for a caller that does not read where it landed. */
+static uint64_t old_cross_round(const entries *e)
+{
+    uint8_t out[RMK_LONGEST_CODE] = {0};
+    uint64_t sum = 0;
+    for (const sample *s = samples; s < samples + CODES; s++) {
+        sum += e->old_cross(s->code, s->length, s->facet, out, sizeof out).place;
+        sum += out[2];
+    }
+    return sum;
+}
+
+static uint64_t cross_unread_round(const entries *e)
+{
+    uint8_t out[RMK_LONGEST_CODE] = {0};
+    uint64_t sum = 0;
+    for (const sample *s = samples; s < samples + CODES; s++) {
         sum += e->cross(s->code, s->length, s->facet, out, sizeof out).place;
         sum += out[2];
     }
@@ -520,6 +609,36 @@ static void query_table(void)
     }
 }
 
+/* One row of the last: our crossing beside another way to the same, for each call. */
+static void landing_row(const char *name, round_of *our_round, round_of *other_round, const entries *beside)
+{
+    medians m = measure_both(our_round, other_round, beside, ROUNDS);
+    printf("| %s | %.1f | %.1f | %.2f |\n", name, m.our_time / CODES, m.other_time / CODES, m.ratio);
+}
+
+/* What it costs that a crossing says where it landed, beside asking for the vertices of the code that it wrote. */
+static void landing_table(void)
+{
+    static const char *const names[] = {"cross beside cross and vertices, dimension 2",
+                                        "cross beside cross and vertices, dimension 3",
+                                        "cross beside cross and vertices, dimension 4"};
+    if (!ours.cross)
+        return;
+    for (size_t n = 0; n < CODES; n++)
+        random_sample(n, 0);
+    printf("\n| crossing, and where it landed | ours, ns | the other, ns | ratio |\n|---|---|---|---|\n");
+    landing_row("cross beside cross and vertices", cross_round, cross_and_vertices_round, &ours);
+    if (old.old_cross) {
+        landing_row("cross, vertex unread, beside the old cross", cross_unread_round, old_cross_round, &old);
+        landing_row("cross beside the old cross and vertices", cross_round, old_cross_and_vertices_round, &old);
+    }
+    for (uint8_t d = 2; d <= 4; d++) {
+        for (size_t n = 0; n < CODES; n++)
+            random_sample(n, d);
+        landing_row(names[d - 2], cross_round, cross_and_vertices_round, &ours);
+    }
+}
+
 /* A good sheet of at most so many bytes, to a file. */
 static int write_sheet(const char *path, uint8_t d, size_t most)
 {
@@ -567,5 +686,6 @@ int main(int count, char **words)
     compatible_table();
     doubling_table();
     query_table();
+    landing_table();
     return 0;
 }

@@ -383,9 +383,20 @@ static inline unsigned put_across(const uint8_t *code, size_t code_length, heade
     return cross_entries(out + HEAD, h, facet, own_sign(code + HEAD + h.d, h.boxes));
 }
 
+/* One vertex alone: from vertex 0 along the entries before its place, by the side each up to place k, by half of it past k. */
+static void put_vertex(uint16_t *vertex, const uint8_t *entries, header h, unsigned place)
+{
+    unsigned by = (RMK_CUBE_SIDE >> h.boxes) >> (place > h.k), point[MOST_AXES] = {0};
+    first_vertex(point, entries, h.d, h.boxes);
+    for (unsigned j = 0; j < place; j++)
+        move(point, entries[j], by);
+    for (unsigned a = 0; a < MOST_AXES; a++)
+        vertex[a] = (uint16_t)point[a];
+}
+
 static rmk_crossed not_crossed(uint8_t refusal)
 {
-    rmk_crossed answer = {refusal, 0, 0};
+    rmk_crossed answer = {refusal, 0, 0, {0}};
     return answer;
 }
 
@@ -403,7 +414,8 @@ rmk_crossed plain_cross(const uint8_t *code, size_t code_length, uint8_t facet, 
     if (out_length < code_length)
         return not_crossed(RMK_REFUSED_SHORT);
     unsigned place = put_across(code, code_length, h, facet, way, out);
-    rmk_crossed answer = {RMK_DONE, (uint8_t)place, code_length};
+    rmk_crossed answer = {RMK_DONE, (uint8_t)place, code_length, {0}};
+    put_vertex(answer.vertex, out + HEAD, h, place);
     return answer;
 }
 

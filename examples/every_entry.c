@@ -47,6 +47,8 @@ static_assert(RMK_REFUSED_INPUT == 15, "program only: input over 65,536 bytes");
     static inline type *answer##_##field(answer *whole) { return &whole->field; } \
     static_assert(offsetof(answer, field) == (at), #answer " has " #field " elsewhere")
 
+typedef uint16_t four_coordinates[4];
+
 FIELD(rmk_written, uint8_t, refusal, 0);
 FIELD(rmk_written, size_t, length, sizeof(size_t));
 static_assert(sizeof(rmk_written) == 2 * sizeof(size_t), "rmk_written has other fields");
@@ -59,7 +61,8 @@ static_assert(sizeof(rmk_path_written) == 3 * sizeof(size_t), "rmk_path_written 
 FIELD(rmk_crossed, uint8_t, refusal, 0);
 FIELD(rmk_crossed, uint8_t, place, 1);
 FIELD(rmk_crossed, size_t, length, sizeof(size_t));
-static_assert(sizeof(rmk_crossed) == 2 * sizeof(size_t), "rmk_crossed has other fields");
+FIELD(rmk_crossed, four_coordinates, vertex, 2 * sizeof(size_t));
+static_assert(sizeof(rmk_crossed) == 2 * sizeof(size_t) + 4 * sizeof(uint16_t), "rmk_crossed has other fields");
 
 FIELD(rmk_sheet_answer, uint8_t, refusal, 0);
 FIELD(rmk_sheet_answer, size_t, offset, sizeof(size_t));
@@ -287,16 +290,51 @@ static void parent(const char *code_text, size_t lent, uint8_t refusal, const ch
     same_cells("out", &expected, &out);
 }
 
+/* The new vertex has d coordinates, and zeros on the other axes; four zeros where it is empty. */
+static void same_vertex(const char *vertex_text, const uint16_t *given)
+{
+    static const char *const names[] = {"axis 1 of the vertex", "axis 2 of the vertex", "axis 3 of the vertex",
+                                        "axis 4 of the vertex"};
+    bytes expected = coordinates(vertex_text);
+    for (size_t a = 0; a < 4; a++)
+        same_number(names[a], expected.at[2 * a] + 256u * expected.at[2 * a + 1], given[a]);
+}
+
+static void fill_stack(void)
+{
+    volatile uint8_t cells[1024];
+    for (size_t i = 0; i < sizeof cells; i++)
+        cells[i] = 0xa5;
+}
+
+static void call_cross(const bytes *code, uint8_t facet, bytes *out, rmk_crossed *answer)
+{
+    *answer = rmk_cross(code->at, code->length, facet, out->at, out->length);
+}
+
+/* An answer of this size comes through memory. So the stack is filled before it is asked for: a coordinate that is left
+ * unset is then no 0. Through these pointers both functions are called as they stand, in the same part of the stack. */
+static void (*volatile fill)(void) = fill_stack;
+static void (*volatile crossed)(const bytes *, uint8_t, bytes *, rmk_crossed *) = call_cross;
+
 static void cross(const char *code_text, uint8_t facet, size_t lent, uint8_t refusal, const char *across_text,
-                  uint8_t place)
+                  uint8_t place, const char *vertex_text)
 {
     bytes code = hex(code_text), expected = hex(across_text), out = lend(lent);
+    rmk_crossed answer;
     begin("crossing", code_text, with_number("facet", facet, lent));
-    rmk_crossed answer = rmk_cross(code.at, code.length, facet, out.at, out.length);
+    fill();
+    crossed(&code, facet, &out, &answer);
     same_number("refusal", refusal, answer.refusal);
     same_number("place", place, answer.place);
     same_number("length", expected.length, answer.length);
+    same_vertex(vertex_text, answer.vertex);
     same_cells("out", &expected, &out);
+}
+
+static void cross_refused(const char *code_text, uint8_t facet, size_t lent, uint8_t refusal)
+{
+    cross(code_text, facet, lent, refusal, "", 0, "");
 }
 
 static void sheet_check(const char *sheet_text, uint8_t refusal, size_t offset, size_t records)
@@ -538,25 +576,53 @@ static void try_parent(void)
     parent(P9_BAD_ROOT, AMPLE, RMK_REFUSED_SIGN, "");
 }
 
+/* At level 0 each vertex is the one before, moved by the box's side along the entry; vertex 0 stands low on the axes with
+ * a plus and high on those with a minus. The boxes of these two, of side 1024, have the low corners (1024,2048,3072) and
+ * (0,1024,2048,3072). */
+#define BOXED_3 "03 06 81 02 83 06 05" /* (2048,2048,4096) (1024,2048,4096) (1024,3072,4096) (1024,3072,3072) */
+#define BOXED_4 "04 08 01 82 03 84 0C 0A" /* (0,2048,2048,4096), then 1 up, 2 down, 3 up, 4 down */
+
 static void try_cross(void)
 {
-    cross(P1, 1, AMPLE, RMK_DONE, P6_ACROSS, 1);
-    cross(P1, 0, AMPLE, RMK_REFUSED_FACE, "", 0);
-    cross(P1, 2, AMPLE, RMK_REFUSED_FACE, "", 0);
-    cross(P7, 0, AMPLE, RMK_DONE, P2, 1);
-    cross(P2, 1, AMPLE, RMK_DONE, P7, 0);
-    cross(P3, 0, AMPLE, RMK_DONE, P8_ACROSS_0, 0);
-    cross(P3, 1, AMPLE, RMK_DONE, P8_ACROSS_1, 1);
-    cross(P3, 2, AMPLE, RMK_REFUSED_FACE, "", 0);
+    cross(P1, 1, AMPLE, RMK_DONE, P6_ACROSS, 1, "0 4096"); /* v1 of the root [+2 +1] */
+    cross_refused(P1, 0, AMPLE, RMK_REFUSED_FACE);
+    cross_refused(P1, 2, AMPLE, RMK_REFUSED_FACE);
+    cross(P7, 0, AMPLE, RMK_DONE, P2, 1, "4096 4096"); /* P2's v1, which is P1's v2 */
+    cross(P2, 1, AMPLE, RMK_DONE, P7, 0, "0 0");
+    cross(P3, 0, AMPLE, RMK_DONE, P8_ACROSS_0, 0, "0 0"); /* P7's v0 */
+    cross(P3, 1, AMPLE, RMK_DONE, P8_ACROSS_1, 1, "4096 2048"); /* the midpoint of P2's v0 and v1 */
+    cross_refused(P3, 2, AMPLE, RMK_REFUSED_FACE);
+    /* Over the middle of the cube: the box at (2048,0) with side 512 goes down by its side on axis 1. */
+    cross("02 06 02 01 01 00 00", 2, AMPLE, RMK_DONE, "02 06 02 81 00 01 01", 2, "1536 512");
+    cross(DEEPEST_2, 1, AMPLE, RMK_DONE, "02 18 02 01 " TWELVE, 1, "0 1"); /* the box has side 1 */
+    /* Past place k: child 1 of P3 and child 1 of P8_ACROSS_0, with the midpoints of their v0 and v2 at place 2. */
+    cross("02 03 02 01 01", 2, AMPLE, RMK_DONE, "02 03 02 81 00", 2, "1024 1024");
+    /* Path 00 from the roots [+1 +2 +3] and [+1 +3 +2], with the midpoint of the root's v0 and v2 at place 2. */
+    cross("03 02 01 02 03", 2, AMPLE, RMK_DONE, "03 02 01 03 02", 2, "2048 0 2048");
     /* The roots [+1 +2 +3] and [+2 +1 +3] have all vertices in common but vertex 1. */
-    cross(ROOT_3, 1, 5, RMK_DONE, "03 00 02 01 03", 1);
-    cross(P1, 3, AMPLE, RMK_REFUSED_STEP, "", 0);
-    cross(P1, 255, 0, RMK_REFUSED_STEP, "", 0);
-    cross(P1, 0, 0, RMK_REFUSED_FACE, "", 0); /* before the lent output */
-    cross(P3, 1, 5, RMK_DONE, P8_ACROSS_1, 1);
-    cross(P3, 1, 4, RMK_REFUSED_SHORT, "", 0);
-    cross(P7, 0, 0, RMK_REFUSED_SHORT, "", 0);
-    cross(P9_BAD_CHILD, 3, 0, RMK_REFUSED_SIGN, "", 0);
+    cross(ROOT_3, 1, 5, RMK_DONE, "03 00 02 01 03", 1, "0 4096 0");
+    /* From child 0 of a root, which lacks the root's vd, to child 1, which has it at place d - 1; and back to v0. */
+    cross("03 01 01 02 03", 0, AMPLE, RMK_DONE, P5, 2, "4096 4096 4096");
+    cross(P5, 2, AMPLE, RMK_DONE, "03 01 01 02 03", 0, "0 0 0");
+    cross("04 01 01 02 03 04", 0, AMPLE, RMK_DONE, "04 01 02 03 04 81", 3, "4096 4096 4096 4096");
+    cross("04 01 02 03 04 81", 3, AMPLE, RMK_DONE, "04 01 01 02 03 04", 0, "0 0 0 0");
+    cross(ROOT_4, 2, AMPLE, RMK_DONE, "04 00 01 03 02 04", 2, "4096 0 4096 0");
+    /* The box goes up by its side on axis 1. */
+    cross(DEEPEST_4, 0, RMK_LONGEST_CODE, RMK_DONE, "04 30 81 02 03 04 00 00 00 00 00 00 00 00 00 00 00 01", 0, "2 0 0 0");
+    /* Two entries change places: v1 is v0 moved up on axis 2, v2 is v1 moved up on axis 3. */
+    cross(BOXED_3, 1, AMPLE, RMK_DONE, "03 06 02 81 83 06 05", 1, "2048 3072 4096");
+    cross(BOXED_4, 2, AMPLE, RMK_DONE, "04 08 01 03 82 84 0C 0A", 2, "1024 2048 3072 4096");
+    cross_refused(P1, 3, AMPLE, RMK_REFUSED_STEP);
+    cross_refused(P1, 255, 0, RMK_REFUSED_STEP);
+    cross_refused(P1, 0, 0, RMK_REFUSED_FACE); /* before the lent output */
+    cross_refused(BOXED_4, 5, AMPLE, RMK_REFUSED_STEP);
+    cross_refused(ROOT_4, 4, AMPLE, RMK_REFUSED_FACE);
+    cross(BOXED_4, 2, 8, RMK_DONE, "04 08 01 03 82 84 0C 0A", 2, "1024 2048 3072 4096");
+    cross_refused(BOXED_4, 2, 7, RMK_REFUSED_SHORT);
+    cross(P3, 1, 5, RMK_DONE, P8_ACROSS_1, 1, "4096 2048");
+    cross_refused(P3, 1, 4, RMK_REFUSED_SHORT);
+    cross_refused(P7, 0, 0, RMK_REFUSED_SHORT);
+    cross_refused(P9_BAD_CHILD, 3, 0, RMK_REFUSED_SIGN);
 }
 
 #define RECORD_0 "43 4C 02 00 01 02 0A 00 14 00 32 00 "

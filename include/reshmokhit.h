@@ -14,7 +14,7 @@
  *  - A refusal changes no lent cell, and the answer's other numbers are zero, with one exception: a
  *    refusal found while reading a sheet gives the offset too. On success the cells past the answer
  *    keep their content.
- *  - A coordinate is two bytes, low byte first; so is a weight.
+ *  - In a byte slice a coordinate is two bytes, low byte first; so is a weight.
  *
  * The archive's global symbols all begin with rmk_, and it needs none but the C library's memset.
  *
@@ -77,8 +77,9 @@ typedef struct {
 /* Answer of crossing. */
 typedef struct {
     uint8_t refusal;
-    uint8_t place; /* of the new vertex, in the cell across */
-    size_t length; /* bytes written, from the output's first cell on */
+    uint8_t place;      /* of the new vertex, in the cell across */
+    size_t length;      /* bytes written, from the output's first cell on */
+    uint16_t vertex[4]; /* the new vertex: a coordinate for each axis, axis 1 first; 0 past the dimension */
 } rmk_crossed;
 
 /* Answer of the sheet check. */
@@ -195,7 +196,8 @@ rmk_written rmk_parent(const uint8_t *code, size_t code_length, uint8_t *out, si
  * \param [in] facet    The place, 0..d, of the vertex that the facet lacks.
  * \param [out] out     Lent. Gets the code of the cell across, as long as `code`.
  * \return              The refusal, the place of the new vertex in the cell across (it may differ from
- *                      `facet`), and the code's length.
+ *                      `facet`), the code's length, and the new vertex's coordinates, those that
+ *                      rmk_vertices gives at the place.
  *
  * Beside rmk_child:    let facet j of child b lie inside this facet. Crossing j is refused with FACE
  *                      exactly where crossing this facet is. Otherwise it gives, with place j, child b of
@@ -204,7 +206,8 @@ rmk_written rmk_parent(const uint8_t *code, size_t code_length, uint8_t *out, si
  * Refusals, in order:  those for a code; RMK_REFUSED_STEP (facet above d), FACE, SHORT.
  * Assumed:             each pointer is non-null and valid for its length; `out` does not overlap
  *                      `code`.
- * Example:             02 01 01 02 across facet 0 is 02 01 02 81, place 1, length 4.
+ * Example:             02 01 01 02 across facet 0 is 02 01 02 81, place 1, length 4, vertex (4096,4096),
+ *                      which is 4096, 4096, 0, 0.
  */
 rmk_crossed rmk_cross(const uint8_t *code, size_t code_length, uint8_t facet, uint8_t *out,
                       size_t out_length);

@@ -8,7 +8,7 @@
  *     vertices CODE            (4096,0) (2048,0) (2048,2048)
  *     child 1 CODE             the child's code
  *     parent CODE              the parent's code
- *     cross 0 CODE             the code of the cell across, and the place of the new vertex: 02 01 02 81 place 1
+ *     cross 0 CODE             the code across, the new vertex's place, and where it is: 02 01 02 81 place 1 at (4096,4096)
  *     sheet SHEET              2 records
  *     compatible SHEET         yes, or no
  *     leaf (1024,1024) SHEET   record 0 weights 3072 0 1024
@@ -204,8 +204,14 @@ static void ask_cross(const char *at)
     rmk_crossed crossed = rmk_cross(bytes, length, (uint8_t)facet, code, sizeof code);
     if (refused(crossed.refusal))
         return;
+    for (size_t a = bytes[0]; a < 4; a++)
+        if (crossed.vertex[a] != 0)
+            fail("a coordinate of an unused axis is not 0");
     print_bytes(code, crossed.length);
-    printf(" place %d", crossed.place);
+    printf(" place %d at ", crossed.place);
+    for (size_t a = 0; a < bytes[0]; a++)
+        printf("%s%d", a ? "," : "(", crossed.vertex[a]);
+    printf(")");
 }
 
 static void ask_sheet(const char *at)

@@ -15,12 +15,14 @@ pub struct PathWritten {
     pub depth: usize,
 }
 
+/// Vertex is 0 on the axes that the dimension lacks, and all 0 on a refusal.
 #[repr(C)]
 #[derive(Clone, Copy, PartialEq, Debug)]
 pub struct Crossed {
     pub refusal: u8,
     pub place: u8,
     pub length: usize,
+    pub vertex: [u16; 4],
 }
 
 #[repr(C)]
@@ -79,7 +81,7 @@ impl PathWritten {
 
 impl Crossed {
     pub fn refused(refusal: u8) -> Crossed {
-        Crossed { refusal, place: 0, length: 0 }
+        Crossed { refusal, place: 0, length: 0, vertex: [0; 4] }
     }
 }
 

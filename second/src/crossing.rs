@@ -42,7 +42,13 @@ pub fn answer(across: Across, out: &mut [u8]) -> Crossed {
         return Crossed::refused(REFUSED_SHORT);
     }
     out[..code.len()].copy_from_slice(&code);
-    Crossed { refusal: DONE, place, length: code.len() }
+    let new = Cell::at(&other.root, &other.path).vertices[place as usize];
+    Crossed { refusal: DONE, place, length: code.len(), vertex: coordinates(&new) }
+}
+
+/// A point as an answer has it. The axes that the dimension lacks are 0 in both.
+pub fn coordinates(point: &Point) -> [u16; MOST_AXES] {
+    point.map(|x| u16::try_from(x).expect("a coordinate of the cube"))
 }
 
 pub fn across(found: &Found, facet: u8) -> Across {

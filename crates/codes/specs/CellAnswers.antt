@@ -15,8 +15,7 @@ use Rattle.bisection.specs.Theorems.CodePaths.{rootOf, pathOf, code-path}
 use Rattle.codes.specs.declared.Written.{Written}
 use Rattle.codes.specs.Outcomes.{Vertices, verticesRefusal}
 use Rattle.codes.specs.Writing.{refused-answers, done-answers}
-use Rattle.corners.specs.Points.{cell-length}
-use Rattle.corners.specs.Drawing.{CellReady, CellWritten, drawn-code}
+use Rattle.corners.specs.Drawing.{CellReady, CellWritten, cell-long}
 
 -- the ways out, in document 01's order
 module _ (code before : List ℕ) where
@@ -43,6 +42,6 @@ module _ (code before : List ℕ) where
     unfolding verticesRefusal
     vertices-done h w = done-answers (cellBytes (cellOf (rootOf code) (pathOf code)))
         (first-is (past p (holds (le-leb (pointsLength (dimensionOf code)) (length before) (omega (arith, size))) all-hold)))
-        (sym size ∙ sym (cell-length (drawn-code code p .sized)))
+        (sym size ∙ sym (cell-long code p))
         (w .is ∙ ap (λ (m : ℕ). cellBytes (cellOf (rootOf code) (pathOf code)) ++ drop m before) size)
         (record { root = rootOf code; path = pathOf code; code-of = code-path code p; is = refl })

@@ -1,4 +1,4 @@
--- The vertices of a cell: coordinates on one axis, points as bytes, a cell drawn. All of it is checked, none is believed.
-pub mod Lines
-pub mod Points
+-- The vertices of a cell: points as words, the low sides of a box, a cell drawn. All of it is checked, none is believed.
+pub mod PointWords
+pub mod Lows
 pub mod Drawing

@@ -7,13 +7,13 @@ use Prim.Native.Nat.{ℕ, suc, _+_, _-_, _≤_, _<_}
 use native.Mathlib.Omega.{arith}
 use lib.Dec.{T}
 use lib.ListN.{length, getD, take, drop, set, length-set, List·getD-append}
-use lib.Seq.{set-append-left, drop-at, paste}
-use Rattle.bisection.specs.Cells.{cellOf}
+use lib.Seq.{set-append-left, take-at, drop-at, paste}
+use Rattle.bisection.specs.Cells.{Cell, vertex, cellOf}
 use Rattle.bisection.specs.Codes.{bytes, dimensionOf, depthOf, entriesOf, orthantsOf, partsOf, negated}
 use Rattle.bisection.specs.Refusals.{done, refusedStep, refusedFace, refusedShort, codeRefusal}
 use Rattle.bisection.specs.Facets.{IsCell, Shares}
 use Rattle.bisection.specs.Theorems.CodePaths.{rootOf, pathOf}
-use Rattle.bisection.specs.Theorems.CodeCells.{code-cell, cell-passes}
+use Rattle.bisection.specs.Theorems.CodeCells.{code-cell, cell-passes, one-cell}
 use Rattle.bisection.specs.Theorems.Table.{Move, exchanged, negatedAt, entriesBy}
 use Rattle.bisection.specs.Theorems.Crossing.Sound.{Allowed, a-swap, a-near, a-far, a-left, a-right, a-trade}
 use Rattle.bisection.specs.Theorems.Crossing.Rearranged.{exchanged-length, negatedAt-length}
@@ -21,18 +21,29 @@ use Rattle.bisection.specs.Theorems.Neighbour.{isBlocked, tableCode, tablePlace
 use Rattle.bisection.specs.Theorems.Entries.{turned-append, unturned-append}
 use Rattle.entries.specs.Passed.{Checked, checked}
 use Rattle.crossing.specs.declared.Crossed.{Crossed}
-use Rattle.crossing.specs.Outcome.{Refuses, Walled, Beyond, Meets, wall, short, crossed, Crosses}
+use Rattle.corners.specs.Drawing.{vertexIn}
+use Rattle.crossing.specs.Outcome.{byAxes, nowhere, Refuses, Walled, Beyond, Meets, wall, short, crossed, Crosses}
 
 -- the cell across has a code of the same length
 pub shares-size : {i : ℕ} {code code' : List ℕ} → Shares i code code' → length code' ≡ length code
 shares-size {i} {code} {code'} s = checked code' (cell-passes (s .cell')) .size ∙ rw (← s .dimension, ← s .depth) (sym (checked code (cell-passes (s .cell)) .size))
 
 -- a refusal's number, and nothing else
-abbrev pub Bare : ℕ → Crossed → Type 0
-Bare number r = (r .refusal ≡ number) × (r .place ≡ 0) × (r .length ≡ 0)
+pub record Bare (refusal : ℕ) (r : Crossed) : Type 0 where
+  pub number : r .refusal ≡ refusal
+  pub place : r .place ≡ 0
+  pub size : r .length ≡ 0
+  pub vertex : r .vertex ≡ nowhere
 
 refuses : {number : ℕ} {before : List ℕ} {r : Crossed} → Bare number r → Refuses number before r before
-refuses f = record { number = f .0; place = f .1; size = f .2; kept = refl }
+refuses f = record { number = f .number; place = f .place; size = f .size; vertex = f .vertex; kept = refl }
+
+-- the whole answer: n bytes of a code stand at the front of `out`, and vertex j of its cell is new
+pub record Whole (n j : ℕ) (out : List ℕ) (r : Crossed) : Type 0 where
+  pub number : r .refusal ≡ done
+  pub place : r .place ≡ j
+  pub size : r .length ≡ n
+  pub vertex : r .vertex ≡ byAxes (vertexIn (take n out) j)
 
 -- what the table's answer says of a code that passes
 module _ (code : List ℕ) (p : codeRefusal code ≡ done) (i : ℕ) (il : i ≤ dimensionOf code) where
@@ -50,14 +61,25 @@ module _ (code : List ℕ) (p : codeRefusal code ≡ done) (i : ℕ) (il : i ≤
     across = across-unblocked cell i il e;
   }
 
-  table-size : isBlocked code i ≡ false → length (tableCode code i) ≡ length code
+  pub table-size : isBlocked code i ≡ false → length (tableCode code i) ≡ length code
   table-size e = shares-size (beyond e .across .shares)
+
+  -- where the code across stands at the front: it passes, and the place is one of its vertices'
+  module _ (e : isBlocked code i ≡ false) (rest : List ℕ) {after : List ℕ} (q : after ≡ tableCode code i ++ rest) where
+    table-front : take (length code) after ≡ tableCode code i
+    table-front = ap (take (length code)) q ∙ take-at (tableCode code i) rest (length code) (table-size e)
+
+    pub front-passes : codeRefusal (take (length code) after) ≡ done
+    front-passes = rw table-front (cell-passes (beyond e .across .shares .cell'))
+
+    pub front-place : tablePlace code i ≤ dimensionOf (take (length code) after)
+    front-place = rw (table-front, ← beyond e .across .shares .dimension) (beyond e .across .place)
 
 -- the ways out, in document 01's order
 module _ (code before : List ℕ) (i : ℕ) {r : Crossed} where
   pub cross-own : {x : ℕ} → x ≡ codeRefusal code → x ≢ done → Bare x r → Crosses code i before r before
   cross-own e n f = record {
-    own = λ q. refuses (f .0 ∙ e, f .1, f .2);
+    own = λ q. subst (λ (x : ℕ). Refuses x before r before) e (refuses f);
     above = λ p l. absurd (n (e ∙ p));
     meets = λ p l. absurd (n (e ∙ p));
   }
@@ -76,13 +98,23 @@ module _ (code before : List ℕ) (i : ℕ) {r : Crossed} where
     pub cross-short : isBlocked code i ≡ false → length before < length code → Bare refusedShort r → Crosses code i before r before
     cross-short e l f = met (short (tableCode code i) (tablePlace code i) (beyond code p i il e) (omega (arith, table-size code p i il e)) (refuses f))
 
-    pub cross-done : isBlocked code i ≡ false → length code ≤ length before → r .refusal ≡ done → r .place ≡ tablePlace code i → r .length ≡ length code
-        → {after : List ℕ} → after ≡ tableCode code i ++ drop (length code) before → Crosses code i before r after
-    cross-done e l f g h q = met (crossed (tableCode code i) (tablePlace code i) (beyond code p i il e) (omega (arith, size))
-        (record { number = f; place = g; size = h ∙ sym size; written = q ∙ ap (λ (n : ℕ). tableCode code i ++ drop n before) (sym size) }))
+    pub cross-done : (e : isBlocked code i ≡ false) {after : List ℕ} → after ≡ tableCode code i ++ drop (length code) before → length code ≤ length before
+        → Whole (length code) (tablePlace code i) after r → Crosses code i before r after
+    cross-done e {after} q l w = met (crossed (tableCode code i) (tablePlace code i) (beyond code p i il e) (omega (arith, size))
+        (record {
+          number = w .number;
+          place = w .place;
+          size = w .size ∙ sym size;
+          vertex = w .vertex ∙ ap byAxes (ap (λ (l : List ℕ). vertexIn l (tablePlace code i)) (table-front code p i il e (drop (length code) before) q)
+              ∙ ap (λ (ws : Cell). vertex ws (tablePlace code i)) (one-cell (code-cell (tableCode code i) (cell-passes there)) there));
+          written = q ∙ ap (λ (n : ℕ). tableCode code i ++ drop n before) (sym size);
+        }))
       where
         size : length (tableCode code i) ≡ length code
         size = table-size code p i il e
+
+        there : IsCell (tableCode code i) (beyond code p i il e .across .shares .ws)
+        there = beyond code p i il e .across .shares .cell'
 
 -- a code that passes with other entries, before more bytes
 pub code-pasted : (code : List ℕ) (p : codeRefusal code ≡ done) {d : ℕ} → d ≡ dimensionOf code → (es rest : List ℕ)

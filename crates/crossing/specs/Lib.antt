@@ -4,6 +4,7 @@ pub mod Outcome
 -- The contract determines the answer, and crossing back leads back.
 pub mod Determined
 -- What the proofs of the functions use.
+pub mod Unpacking
 pub mod Answers
 pub mod Landing
 pub mod Leaving

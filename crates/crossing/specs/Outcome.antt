@@ -5,24 +5,34 @@ use mathlib.Core.Logic.{_≢_}
 use mathlib.Core.List.{List, _++_}
 use Prim.Native.Nat.{ℕ, _≤_, _<_}
 use lib.ListN.{length, drop}
-use Rattle.bisection.specs.Cells.{Cell}
+use Rattle.bisection.specs.Cells.{Point, Cell, coordinate, vertex}
 use Rattle.bisection.specs.Codes.{dimensionOf}
 use Rattle.bisection.specs.Refusals.{done, refusedStep, refusedFace, refusedShort, codeRefusal}
 use Rattle.bisection.specs.Facets.{facet, InFace, IsCell, Shares, Across}
+use Rattle.crossing.specs.declared.Vertex.{Vertex}
 use Rattle.crossing.specs.declared.Crossed.{Crossed}
 
--- refused: place and length are 0, and no lent cell changes
+-- a point by value: its coordinate on each of the four axes, 0 on those that it lacks
+unfoldable pub byAxes : Point → Vertex
+byAxes v = record { first = coordinate v 1; second = coordinate v 2; third = coordinate v 3; fourth = coordinate v 4 }
+
+abbrev pub nowhere : Vertex
+nowhere = record { first = 0; second = 0; third = 0; fourth = 0 }
+
+-- refused: place, length and the four coordinates are 0, and no lent cell changes
 pub record Refuses (refusal : ℕ) (before : List ℕ) (r : Crossed) (after : List ℕ) : Type 0 where
   pub number : r .refusal ≡ refusal
   pub place : r .place ≡ 0
   pub size : r .length ≡ 0
+  pub vertex : r .vertex ≡ nowhere
   pub kept : after ≡ before
 
--- done: the code stands at the buffer's front, its new vertex at place j; the cells past it keep their content
-pub record Gives (code' : List ℕ) (j : ℕ) (before : List ℕ) (r : Crossed) (after : List ℕ) : Type 0 where
+-- done: the code stands at the buffer's front, its new vertex v at place j; the cells past it keep their content
+pub record Gives (code' : List ℕ) (j : ℕ) (v : Point) (before : List ℕ) (r : Crossed) (after : List ℕ) : Type 0 where
   pub number : r .refusal ≡ done
   pub place : r .place ≡ j
   pub size : r .length ≡ length code'
+  pub vertex : r .vertex ≡ byAxes v
   pub written : after ≡ code' ++ drop (length code') before
 
 -- facet i of the code's cell lies in a face of the cube, and no other cell of that depth has all its vertices
@@ -42,7 +52,7 @@ pub record Beyond (code : List ℕ) (i : ℕ) (code' : List ℕ) (j : ℕ) : Typ
 pub data Meets (code : List ℕ) (i : ℕ) (before : List ℕ) (r : Crossed) (after : List ℕ) : Type 0 where
   wall : Walled code i → Refuses refusedFace before r after → Meets code i before r after
   short : (code' : List ℕ) (j : ℕ) → Beyond code i code' j → length before < length code' → Refuses refusedShort before r after → Meets code i before r after
-  crossed : (code' : List ℕ) (j : ℕ) → Beyond code i code' j → length code' ≤ length before → Gives code' j before r after → Meets code i before r after
+  crossed : (code' : List ℕ) (j : ℕ) (b : Beyond code i code' j) → length code' ≤ length before → Gives code' j (vertex (b .across .shares .ws) j) before r after → Meets code i before r after
 
 -- in this order: the code's own refusal; 7; 8, 11 or done
 pub record Crosses (code : List ℕ) (i : ℕ) (before : List ℕ) (r : Crossed) (after : List ℕ) : Type 0 where

@@ -1,11 +1,13 @@
-// Crossing a facet: the cell across it at the same depth, and the place of its new vertex. The entry takes any bytes
+// Crossing a facet: the cell across it at the same depth, and its new vertex: the place and the coordinates. The entry takes any bytes
 // and numbers; an early `return` for each refusal stands in document 01's order, and nothing is written before the
 // last refusal is past. A crossing stays in the cell's box, where it rearranges the entries, or leaves it for the
 // box beside it, where the orthants change by carry.
 ghost use mathlib.Core.Path.{_≡_};
 ghost use Rattle.bisection.specs.Refusals.{done, codeRefusal};
 ghost use Rattle.crossing.specs.Outcome.{Crosses};
-ghost use Rattle.crossing.specs.Landing.{AnswerIs, Lands};
+ghost use Rattle.crossing.specs.Unpacking.{Unpacked};
+ghost use Rattle.crossing.specs.Answers.{Bare};
+ghost use Rattle.crossing.specs.Landing.{Answerable, AnswerIs, Lands};
 ghost use Rattle.crossing.specs.Leaving.{Leaving};
 ghost use Rattle.crossing.specs.Staying.{Staying};
 use bisection::DONE;
@@ -17,40 +19,72 @@ use fours::words;
 use moves::carries;
 use steps::buffers;
 
-// The answer: the place of the new vertex, and how many bytes of the code across stand at the buffer's front.
+// A vertex by value: its coordinate on each axis, axis 1 first, and 0 on an axis that the dimension lacks.
+#[repr(C)]
+pub struct Vertex {
+    pub first: u16,
+    pub second: u16,
+    pub third: u16,
+    pub fourth: u16,
+}
+
+// The answer: the place of the new vertex, how many bytes of the code across stand at the buffer's front, and the new vertex.
 #[repr(C)]
 pub struct Crossed {
     pub refusal: u8,
     pub place: u8,
     pub length: usize,
+    pub vertex: Vertex,
+}
+
+// The vertex that a point's word gives.
+fn vertex_of(point: u64) -> Vertex
+    ensures { λ r. ⌜ Unpacked point r ⌝ }
+{
+    Vertex {
+        first: (point % 65536) as u16,
+        second: ((point >> 16) % 65536) as u16,
+        third: ((point >> 32) % 65536) as u16,
+        fourth: (point >> 48) as u16,
+    }
 }
 
 // A refusal: its number, and nothing written.
 fn refused(refusal: u8) -> Crossed
-    ensures { λ r. ⌜ (r .refusal ≡ refusal) × (r .place ≡ 0) × (r .length ≡ 0) ⌝ }
+    ensures { λ r. ⌜ Bare refusal r ⌝ }
 {
     Crossed {
         refusal,
         place: 0,
         length: 0,
+        vertex: Vertex {
+            first: 0,
+            second: 0,
+            third: 0,
+            fourth: 0,
+        },
     }
 }
 
 // A crossing gives one number: a refusal, or the place of the new vertex and so much more. A number comes back in a register, an answer
-// of three through memory.
+// of several through memory.
 const LANDED: u8 = 16;
 
-// The answer that a crossing's number gives.
-fn answer(number: u8, length: usize) -> Crossed
-    ensures { λ r. ⌜ AnswerIs number length r ⌝ }
+// The answer that a crossing's number gives, with the code across at the buffer's front. The new vertex is read off that code, and no
+// other vertex is drawn.
+fn answer(number: u8, out: &[u8], length: usize) -> Crossed
+    requires { ⌜ Answerable number (now out) length ⌝ }
+    ensures { λ r. ⌜ AnswerIs number (now (out .entry)) length r ⌝ }
 {
     if number < LANDED {
         return refused(number);
     }
+    let place = number - LANDED;
     Crossed {
         refusal: DONE,
-        place: number - LANDED,
+        place,
         length,
+        vertex: vertex_of(corners::vertex(&out[..length], common::size(place))),
     }
 }
 
@@ -125,7 +159,7 @@ pub fn cross_checked(code: &[u8], facet: u8, out: &mut [u8]) -> Crossed
     requires { ⌜ codeRefusal (now code) ≡ done ⌝ }
     ensures { λ r. ⌜ Crosses (now (code .entry)) facet (now (out .entry)) r (now (out .exit)) ⌝ }
 {
-    answer(landing(code, facet, out), code.len())
+    answer(landing(code, facet, out), &out[..], code.len())
 }
 
 // Across a facet lies a cell that has all its vertices, or a face of the cube.
@@ -136,5 +170,5 @@ pub fn cross(code: &[u8], facet: u8, out: &mut [u8]) -> Crossed
     if refusal != DONE {
         return refused(refusal);
     }
-    answer(landing(code, facet, out), code.len())
+    answer(landing(code, facet, out), &out[..], code.len())
 }

@@ -42,7 +42,7 @@ pub record EveryEntry : Type 0 where
   pub list-sheet : (sheet before : List ℕ) → OneOutcome (Lists sheet before)
 
 cross-one : {r r′ : Crossed} {after after′ : List ℕ} → Same r after r′ after′ → (r ≡ r′) × (after ≡ after′)
-cross-one s = (λ i. record { refusal = s .refusal i; place = s .place i; length = s .size i }, s .buffer)
+cross-one s = (λ i. record { refusal = s .refusal i; place = s .place i; length = s .size i; vertex = s .vertex i }, s .buffer)
 
 pub nothing-open : EveryEntry
 unfolding OneAnswer OneOutcome

@@ -10,7 +10,8 @@ use Rattle.bisection.specs.Refusals.{done}
 use Rattle.codes.specs.declared.Written.{Written}
 use Rattle.codes.specs.declared.PathWritten.{PathWritten}
 use Rattle.codes.specs.Outcomes.{PathToCode, CodeToPath}
-use Rattle.crossing.specs.Outcome.{Crosses}
+use Rattle.crossing.specs.declared.Vertex.{Vertex}
+use Rattle.crossing.specs.Outcome.{nowhere, Crosses}
 use Rattle.sheets.specs.declared.SheetAnswer.{SheetAnswer}
 use Rattle.sheets.specs.Sheets.{SheetIs, Good}
 use Rattle.compatible.specs.declared.CompatibleAnswer.{CompatibleAnswer}
@@ -19,11 +20,12 @@ use Rattle.compatible.specs.Compatible.{CompatibleIs}
 pub record NoIdleProgram : Type 0 where
   -- one that refuses everything, with whatever number: a path (demand 2), a crossing (demand 3)
   pub refuses-paths : (number : ℕ) → number ≢ done → ((root path before : List ℕ) → PathToCode root path before (record { refusal = number; length = 0 }) before) → ⊥
-  pub refuses-crossings : (number : ℕ) → number ≢ done → ((code : List ℕ) (i : ℕ) (before : List ℕ) → Crosses code i before (record { refusal = number; place = 0; length = 0 }) before) → ⊥
+  pub refuses-crossings : (number : ℕ) → number ≢ done → ((code : List ℕ) (i : ℕ) (before : List ℕ) → Crosses code i before (record { refusal = number; place = 0; length = 0; vertex = nowhere }) before) → ⊥
   -- one that returns a fixed root
   pub fixed-root : (root : List ℕ) (r : List ℕ → PathWritten) (path : List ℕ → List ℕ) → ((code roots paths : List ℕ) → CodeToPath code roots paths (r code) (root ++ drop (length root) roots) (path code)) → ⊥
   -- a crossing that hands back its own cell
-  pub own-cell : (place : List ℕ → ℕ → ℕ) → ((code : List ℕ) (i : ℕ) (before : List ℕ) → Crosses code i before (record { refusal = done; place = place code i; length = length code }) (code ++ drop (length code) before)) → ⊥
+  pub own-cell : (place : List ℕ → ℕ → ℕ) (vertex : List ℕ → ℕ → Vertex)
+      → ((code : List ℕ) (i : ℕ) (before : List ℕ) → Crosses code i before (record { refusal = done; place = place code i; length = length code; vertex = vertex code i }) (code ++ drop (length code) before)) → ⊥
   -- one that writes nothing
   pub writes-nothing : (r : List ℕ → List ℕ → Written) → ((root path before : List ℕ) → PathToCode root path before (r root path) before) → ⊥
   -- a path reader that honours only its first step

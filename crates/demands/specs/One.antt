@@ -44,7 +44,7 @@ pub record Demand1 : Type 0 where
   pub child : (code : List ℕ) (which : ℕ) (before : List ℕ) (r : Written) (after : List ℕ) → Child code which before r after → r .refusal ≢ done → Clean (r .refusal) (r .length ∷ []) (before ∷ []) (after ∷ [])
   pub parent : (code before : List ℕ) (r : Written) (after : List ℕ) → Parent code before r after → r .refusal ≢ done → Clean (r .refusal) (r .length ∷ []) (before ∷ []) (after ∷ [])
   pub cross : (code : List ℕ) (facet : ℕ) (before : List ℕ) (r : Crossed) (after : List ℕ) → Crosses code facet before r after → r .refusal ≢ done
-      → Clean (r .refusal) (r .place ∷ r .length ∷ []) (before ∷ []) (after ∷ [])
+      → Clean (r .refusal) (r .place ∷ r .length ∷ r .vertex .first ∷ r .vertex .second ∷ r .vertex .third ∷ r .vertex .fourth ∷ []) (before ∷ []) (after ∷ [])
   pub sheet-check : (sheet : List ℕ) (r : SheetAnswer) → SheetIs sheet r → r .refusal ≢ done → Clean (r .refusal) (r .records ∷ []) [] []
   pub leaf-at : (sheet point before : List ℕ) (r : LeafAnswer) (after : List ℕ) → LeafIs sheet point before r after → r .refusal ≢ done
       → Clean (r .refusal) (r .number ∷ r .length ∷ []) (before ∷ []) (after ∷ []) × OffsetOf sheet (r .offset)

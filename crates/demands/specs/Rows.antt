@@ -8,12 +8,12 @@ use lib.ListN.{length, drop}
 use Rattle.bisection.specs.Refusals.{done, refusedFace, codeRefusal}
 use Rattle.codes.specs.declared.Written.{Written}
 use Rattle.codes.specs.Outcomes.{PathToCode, Vertices, Child}
-use Rattle.crossing.specs.Outcome.{Crosses}
+use Rattle.crossing.specs.Outcome.{byAxes, nowhere, Crosses}
 use Rattle.sheets.specs.Sheets.{told, SheetIs}
 use Rattle.listing.specs.Texts.{Lists}
 use lib.IntN.{pos}
 use lib.Ieee.{binary64, ofInt}
-use Rattle.bisection.specs.Cells.{pointBytes}
+use Rattle.bisection.specs.Cells.{Point, pointBytes}
 use Rattle.greys.specs.declared.Value.the-variants.{Grey}
 use Rattle.queries.specs.Queries.{leafTold, LeafIs, ValueIs}
 
@@ -23,7 +23,8 @@ pub data Row : Type 0 where
   vertices : (code points : List ℕ) → Row
   code-check : (code : List ℕ) (refusal : ℕ) → Row
   child-at : (code : List ℕ) (which : ℕ) (answer : List ℕ) → Row
-  cross : (code : List ℕ) (facet : ℕ) (answer : List ℕ) (place : ℕ) → Row
+  -- the answer's new vertex: its place, and its coordinates
+  cross : (code : List ℕ) (facet : ℕ) (answer : List ℕ) (place : ℕ) (vertex : Point) → Row
   -- refusal 8
   walled : (code : List ℕ) (facet : ℕ) → Row
   sheet-check : (sheet : List ℕ) (records : ℕ) → Row
@@ -42,9 +43,9 @@ Holds (path-to-code root path code) = Answered (PathToCode root path) code
 Holds (vertices code points) = Answered (Vertices code) points
 Holds (code-check code refusal) = refusal ≡ codeRefusal code
 Holds (child-at code which answer) = Answered (Child code which) answer
-Holds (cross code facet answer place) = (before : List ℕ) → length answer ≤ length before
-    → Crosses code facet before (record { refusal = done; place = place; length = length answer }) (answer ++ drop (length answer) before)
-Holds (walled code facet) = (before : List ℕ) → Crosses code facet before (record { refusal = refusedFace; place = 0; length = 0 }) before
+Holds (cross code facet answer place vertex) = (before : List ℕ) → length answer ≤ length before
+    → Crosses code facet before (record { refusal = done; place = place; length = length answer; vertex = byAxes vertex }) (answer ++ drop (length answer) before)
+Holds (walled code facet) = (before : List ℕ) → Crosses code facet before (record { refusal = refusedFace; place = 0; length = 0; vertex = nowhere }) before
 Holds (sheet-check sheet records) = SheetIs sheet (told done 0 records)
 Holds (listing sheet text) = (before : List ℕ) → Lists sheet before (length text) (text ++ drop (length text) before)
 Holds (leaf-at sheet point number weights) = (before : List ℕ) → length (pointBytes weights) ≤ length before

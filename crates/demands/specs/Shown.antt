@@ -9,19 +9,19 @@ use lib.Dec.{T, leb, ltb}
 use lib.ListN.{length, drop}
 use borrow.Author.Tests.{le-leb, leb-true}
 use Rattle.dimension.specs.Sizes.{isDimension, greatestDepth, codeLength, pointsLength}
-use Rattle.bisection.specs.Cells.{cellOf, pointBytes, cellBytes}
+use Rattle.bisection.specs.Cells.{Point, Cell, vertex, cellOf, pointBytes, cellBytes}
 use Rattle.bisection.specs.Codes.{codeOf, dimensionOf, depthOf}
 use Rattle.bisection.specs.Refusals.{done, codeRefusal, isRoot, isPath}
 use Rattle.bisection.specs.Theorems.Ladders.{first-is, all-hold, holds, past}
 use Rattle.bisection.specs.Theorems.CodePaths.{rootOf, pathOf, code-path, childCode}
-use Rattle.bisection.specs.Theorems.CodeCells.{code-cell}
+use Rattle.bisection.specs.Theorems.CodeCells.{code-cell, cell-passes, one-cell}
 use Rattle.bisection.specs.Facets.{IsCell, Across}
 use Rattle.bisection.specs.Theorems.Neighbour.{isBlocked, tableCode, tablePlace, face-is-blocked, blocked-is-face, blocked-alone, across-unblocked}
 use Rattle.codes.specs.Outcomes.{pathRefusal, PathToCode, verticesRefusal, Vertices, childRefusal, Child}
 use Rattle.codes.specs.PathAnswers.{good-root, code-of-length}
 use Rattle.codes.specs.ChildAnswers.{child-of, child-length}
 use Rattle.codes.specs.Writing.{done-writes, done-answers}
-use Rattle.crossing.specs.Outcome.{crossed, wall}
+use Rattle.crossing.specs.Outcome.{byAxes, crossed, wall}
 use Rattle.sheets.specs.Sheets.{sheetMark, sampleWidth, samplesOf, GoodSheet, good, Good, sheet-good}
 use Rattle.listing.specs.Texts.{Listing}
 use Rattle.points.specs.Points.{pointOf, isPoint}
@@ -52,12 +52,13 @@ pub record ChildShown (code : List ℕ) (which : ℕ) (answer : List ℕ) : Type
   pub is : childCode which code ≡ answer
 
 -- a code that passes and one of its facets, which the rule table crosses or not
-pub record CrossShown (code : List ℕ) (i : ℕ) (answer : List ℕ) (place : ℕ) : Type 0 where
+pub record CrossShown (code : List ℕ) (i : ℕ) (answer : List ℕ) (place : ℕ) (new : Point) : Type 0 where
   pub passes : codeRefusal code ≡ done
   pub facet : leb i (dimensionOf code) ≡ true
   pub free : isBlocked code i ≡ false
   pub is : tableCode code i ≡ answer
   pub at : tablePlace code i ≡ place
+  pub lands : vertex (cellOf (rootOf answer) (pathOf answer)) place ≡ new
 
 pub record WallShown (code : List ℕ) (i : ℕ) : Type 0 where
   pub passes : codeRefusal code ≡ done
@@ -86,7 +87,7 @@ Shown (path-to-code root path code) = PathShown root path code
 Shown (vertices code points) = CellShown code points
 Shown (code-check code refusal) = refusal ≡ codeRefusal code
 Shown (child-at code which answer) = ChildShown code which answer
-Shown (cross code facet answer place) = CrossShown code facet answer place
+Shown (cross code facet answer place new) = CrossShown code facet answer place new
 Shown (walled code facet) = WallShown code facet
 Shown (sheet-check sheet records) = GoodSheet sheetMark sampleWidth sheet records
 Shown (listing sheet text) = Listing sheet text
@@ -116,12 +117,12 @@ child-row {code} {which} {answer} a before room = done-answers (childCode which 
     fits : codeLength (dimensionOf code) (suc (depthOf code)) ≤ length before
     fits = omega (arith, child-length code which (a .passes) ∙ ap length (a .is))
 
-cross-row : {code : List ℕ} {i : ℕ} {answer : List ℕ} {place : ℕ} → CrossShown code i answer place → Holds (cross code i answer place)
+cross-row : {code : List ℕ} {i : ℕ} {answer : List ℕ} {place : ℕ} {new : Point} → CrossShown code i answer place new → Holds (cross code i answer place new)
 unfolding Holds
-cross-row {code} {i} {answer} {place} a before room = record {
+cross-row {code} {i} {answer} {place} {new} a before room = record {
   own = λ n. absurd (n (a .passes));
   above = λ e l. absurd (omega (arith, il, l));
-  meets = λ e l. crossed answer place (record { vs = cellOf (rootOf code) (pathOf code); cell = c; free = λ w. absurd (wrong (sym (face-is-blocked c i il w) ∙ a .free)); across = across }) room (record { number = refl; place = refl; size = refl; written = refl });
+  meets = λ e l. crossed answer place (record { vs = cellOf (rootOf code) (pathOf code); cell = c; free = λ w. absurd (wrong (sym (face-is-blocked c i il w) ∙ a .free)); across = across }) room (record { number = refl; place = refl; size = refl; vertex = ap byAxes (sym (a .lands) ∙ ap (λ (ws : Cell). vertex ws place) there); written = refl });
 }
   where
     c : IsCell code (cellOf (rootOf code) (pathOf code))
@@ -136,12 +137,15 @@ cross-row {code} {i} {answer} {place} a before room = record {
     across : Across code i answer place
     across = subst (λ (j : ℕ). Across code i answer j) (a .at) (subst (λ (l : List ℕ). Across code i l (tablePlace code i)) (a .is) (across-unblocked c i il (a .free)))
 
+    there : cellOf (rootOf answer) (pathOf answer) ≡ across .shares .ws
+    there = one-cell (code-cell answer (cell-passes (across .shares .cell'))) (across .shares .cell')
+
 wall-row : {code : List ℕ} {i : ℕ} → WallShown code i → Holds (walled code i)
 unfolding Holds
 wall-row {code} {i} a before = record {
   own = λ n. absurd (n (a .passes));
   above = λ e l. absurd (omega (arith, il, l));
-  meets = λ e l. wall (record { vs = cellOf (rootOf code) (pathOf code); cell = c; face = blocked-is-face c i il (a .blocked); alone = blocked-alone c i il (a .blocked) }) (record { number = refl; place = refl; size = refl; kept = refl });
+  meets = λ e l. wall (record { vs = cellOf (rootOf code) (pathOf code); cell = c; face = blocked-is-face c i il (a .blocked); alone = blocked-alone c i il (a .blocked) }) (record { number = refl; place = refl; size = refl; vertex = refl; kept = refl });
 }
   where
     c : IsCell code (cellOf (rootOf code) (pathOf code))
@@ -167,7 +171,7 @@ row (path-to-code root path code) a = path-row a
 row (vertices code points) a = cell-row a
 row (code-check code refusal) a = a
 row (child-at code which answer) a = child-row a
-row (cross code facet answer place) a = cross-row a
+row (cross code facet answer place new) a = cross-row a
 row (walled code facet) a = wall-row a
 row (sheet-check sheet records) a = good a refl
 row (listing sheet text) a = λ before. record { text = text; listing = a; length-is = refl; front = refl }

@@ -39,16 +39,16 @@ table =
     vertices (0x02 ∷ 0x04 ∷ 0x01 ∷ 0x02 ∷ 0x01 ∷ 0x00 ∷ []) (0x00 ∷ 0x08 ∷ 0x00 ∷ 0x00 ∷ 0x00 ∷ 0x0C ∷ 0x00 ∷ 0x00 ∷ 0x00 ∷ 0x0C ∷ 0x00 ∷ 0x04 ∷ []) ∷
     -- P5
     path-to-code (1 ∷ 2 ∷ 3 ∷ []) (1 ∷ []) (0x03 ∷ 0x01 ∷ 0x02 ∷ 0x03 ∷ 0x81 ∷ []) ∷
-    -- P6
-    cross (0x02 ∷ 0x00 ∷ 0x01 ∷ 0x02 ∷ []) 1 (0x02 ∷ 0x00 ∷ 0x02 ∷ 0x01 ∷ []) 1 ∷
+    -- P6: root 2 1 is (0,0) (0,4096) (4096,4096)
+    cross (0x02 ∷ 0x00 ∷ 0x01 ∷ 0x02 ∷ []) 1 (0x02 ∷ 0x00 ∷ 0x02 ∷ 0x01 ∷ []) 1 (0 ∷ 4096 ∷ []) ∷
     walled (0x02 ∷ 0x00 ∷ 0x01 ∷ 0x02 ∷ []) 0 ∷
     walled (0x02 ∷ 0x00 ∷ 0x01 ∷ 0x02 ∷ []) 2 ∷
-    -- P7
-    cross (0x02 ∷ 0x01 ∷ 0x01 ∷ 0x02 ∷ []) 0 (0x02 ∷ 0x01 ∷ 0x02 ∷ 0x81 ∷ []) 1 ∷
-    cross (0x02 ∷ 0x01 ∷ 0x02 ∷ 0x81 ∷ []) 1 (0x02 ∷ 0x01 ∷ 0x01 ∷ 0x02 ∷ []) 0 ∷
-    -- P8
-    cross (0x02 ∷ 0x02 ∷ 0x81 ∷ 0x02 ∷ 0x01 ∷ []) 0 (0x02 ∷ 0x02 ∷ 0x01 ∷ 0x02 ∷ 0x00 ∷ []) 0 ∷
-    cross (0x02 ∷ 0x02 ∷ 0x81 ∷ 0x02 ∷ 0x01 ∷ []) 1 (0x02 ∷ 0x02 ∷ 0x02 ∷ 0x81 ∷ 0x01 ∷ []) 1 ∷
+    -- P7: the one is (0,0) (4096,0) (2048,2048), the other P2's cell
+    cross (0x02 ∷ 0x01 ∷ 0x01 ∷ 0x02 ∷ []) 0 (0x02 ∷ 0x01 ∷ 0x02 ∷ 0x81 ∷ []) 1 (4096 ∷ 4096 ∷ []) ∷
+    cross (0x02 ∷ 0x01 ∷ 0x02 ∷ 0x81 ∷ []) 1 (0x02 ∷ 0x01 ∷ 0x01 ∷ 0x02 ∷ []) 0 (0 ∷ 0 ∷ []) ∷
+    -- P8: across facet 0 lies (0,0) (2048,0) (2048,2048), across facet 1 (4096,0) (4096,2048) (2048,2048)
+    cross (0x02 ∷ 0x02 ∷ 0x81 ∷ 0x02 ∷ 0x01 ∷ []) 0 (0x02 ∷ 0x02 ∷ 0x01 ∷ 0x02 ∷ 0x00 ∷ []) 0 (0 ∷ 0 ∷ []) ∷
+    cross (0x02 ∷ 0x02 ∷ 0x81 ∷ 0x02 ∷ 0x01 ∷ []) 1 (0x02 ∷ 0x02 ∷ 0x02 ∷ 0x81 ∷ 0x01 ∷ []) 1 (4096 ∷ 2048 ∷ []) ∷
     walled (0x02 ∷ 0x02 ∷ 0x81 ∷ 0x02 ∷ 0x01 ∷ []) 2 ∷
     -- request No. 5, where a child's number changes: P3 is child 1 of P7's first cell, and what lies across its facet 1 (P8) is child 0 of P2
     child-at (0x02 ∷ 0x01 ∷ 0x01 ∷ 0x02 ∷ []) 1 (0x02 ∷ 0x02 ∷ 0x81 ∷ 0x02 ∷ 0x01 ∷ []) ∷
@@ -90,13 +90,13 @@ worked = every table (
     and record { dimension = refl; depth = refl; good = refl; steps = refl; is = refl }
     and record { passes = refl; is = refl; size = refl }
     and record { dimension = refl; depth = refl; good = refl; steps = refl; is = refl }
-    and record { passes = refl; facet = refl; free = refl; is = refl; at = refl }
+    and record { passes = refl; facet = refl; free = refl; is = refl; at = refl; lands = refl }
     and record { passes = refl; facet = refl; blocked = refl }
     and record { passes = refl; facet = refl; blocked = refl }
-    and record { passes = refl; facet = refl; free = refl; is = refl; at = refl }
-    and record { passes = refl; facet = refl; free = refl; is = refl; at = refl }
-    and record { passes = refl; facet = refl; free = refl; is = refl; at = refl }
-    and record { passes = refl; facet = refl; free = refl; is = refl; at = refl }
+    and record { passes = refl; facet = refl; free = refl; is = refl; at = refl; lands = refl }
+    and record { passes = refl; facet = refl; free = refl; is = refl; at = refl; lands = refl }
+    and record { passes = refl; facet = refl; free = refl; is = refl; at = refl; lands = refl }
+    and record { passes = refl; facet = refl; free = refl; is = refl; at = refl; lands = refl }
     and record { passes = refl; facet = refl; blocked = refl }
     and record { passes = refl; step = refl; deeper = refl; is = refl }
     and record { passes = refl; step = refl; deeper = refl; is = refl }

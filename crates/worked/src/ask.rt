@@ -63,9 +63,12 @@ fn cross_answer(code: &[u8], facet: u8) {
     if answer.refusal != DONE {
         return say::refused(answer.refusal);
     }
+    let new = answer.vertex;
     say::text(b"place ");
     say::number(common::size(answer.place));
-    say::text(b" of ");
+    say::text(b", vertex ");
+    say::four(new.first, new.second, new.third, new.fourth);
+    say::text(b", of ");
     say::line(&out[..answer.length]);
 }
 

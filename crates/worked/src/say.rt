@@ -36,6 +36,17 @@ pub fn pairs(bytes: &[u8]) {
     }
 }
 
+// Four coordinates.
+pub fn four(first: u16, second: u16, third: u16, fourth: u16) {
+    io::print_decimal(STDOUT_FILENO, first as u64);
+    text(b" ");
+    io::print_decimal(STDOUT_FILENO, second as u64);
+    text(b" ");
+    io::print_decimal(STDOUT_FILENO, third as u64);
+    text(b" ");
+    io::print_decimal(STDOUT_FILENO, fourth as u64);
+}
+
 // The end of a line: a code.
 pub fn line(code: &[u8]) {
     hex(code, 2);

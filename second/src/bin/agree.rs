@@ -8,7 +8,7 @@
 
 use second::answers::Crossed;
 use second::bisection::{Cell, Point};
-use second::crossing::{facet_of, in_face_of_cube, EveryCell};
+use second::crossing::{coordinates, facet_of, in_face_of_cube, EveryCell};
 use second::finder::{Finder, Found};
 use second::hulls::Hull;
 use second::inputs::{self, Options};
@@ -62,9 +62,11 @@ mod library {
 
     pub fn across(c: &[u8], facet: u8) -> Across {
         let mut code = vec![0; c.len()];
-        let answer = cross(c, facet, &mut code);
-        code.truncate(answer.length);
-        (answer.refusal == DONE).then_some((code, answer.place)).ok_or(answer.refusal)
+        let Crossed { refusal, place, length, vertex } = cross(c, facet, &mut code);
+        code.truncate(length);
+        let kept = refusal == DONE || vertex == [0; MOST_AXES];
+        assert!(kept, "{c:?} across {facet} is refused, with a vertex: {vertex:?}");
+        (refusal == DONE).then_some((code, place, vertex)).ok_or(refusal)
     }
 
     fn written(length: usize, entry: impl FnOnce(Out, usize) -> Written) -> Result<Vec<u8>, u8> {
@@ -75,8 +77,8 @@ mod library {
     }
 }
 
-/// The code of the cell across a facet and the place of its new vertex, or the refusal.
-type Across = Result<(Vec<u8>, u8), u8>;
+/// The code of the cell across a facet, the place of its new vertex and that vertex, or the refusal.
+type Across = Result<(Vec<u8>, u8, [u16; MOST_AXES]), u8>;
 
 /// Where a child's crossing leads: nowhere; to the child of the same number, or of the other one, of the
 /// cell across; to the other child of the same cell.
@@ -198,20 +200,34 @@ impl Facet<'_> {
 
     /// Where the crossing is to lead: between both children to the other one; else to a child of the cell
     /// across, of the same number where the cell's new vertex has the lacking one's place. It has another
-    /// place only in the cell's sibling. The child's own new vertex always has that place.
+    /// place only in the cell's sibling. The child's own new vertex always has that place, and the
+    /// coordinates that the bisection gives there: of the child's sibling, or of the cell across.
     fn expected(&self) -> (&'static str, Across) {
         let Some(i) = self.inside.first() else {
-            let (other, code) = (1 - self.b, &self.split.children[1 - self.b as usize].code);
-            return (SIBLING, Ok((code.clone(), self.split.between(other))));
+            let place = self.split.between(1 - self.b);
+            let Named { cell, code } = &self.split.children[1 - self.b as usize];
+            let new = coordinates(&cell.vertices[place as usize]);
+            return (SIBLING, Ok((code.clone(), place, new)));
         };
-        let (code, place) = match library::across(&self.split.whole.code, *i) {
+        let (code, place, vertex) = match library::across(&self.split.whole.code, *i) {
             Err(REFUSED_FACE) => return (REFUSED, Err(REFUSED_FACE)),
             answer => self.given(answer, "the cell's crossing"),
         };
         let (kind, b) = if place == *i { (KEPT, self.b) } else { (CHANGED, 1 - self.b) };
         let near = kind == KEPT || self.split.has_sibling(&code);
         self.hold(near, "the place changed, to no sibling");
-        (kind, Ok((self.given(library::child(&code, b), "a child across"), self.j)))
+        let vertices = self.points_across(&code);
+        let other = Cell { depth: self.split.whole.cell.depth, vertices };
+        let lands = other.vertices.get(place as usize).is_some_and(|v| coordinates(v) == vertex);
+        self.hold(lands, "the cell's new vertex is elsewhere");
+        let new = coordinates(&other.child(b).vertices[self.j as usize]);
+        (kind, Ok((self.given(library::child(&code, b), "a child across"), self.j, new)))
+    }
+
+    /// The library's points of a cell across.
+    fn points_across(&self, code: &[u8]) -> Vec<Point> {
+        let d = self.split.dimension();
+        points(&self.given(library::vertices(code, d), "the cell across"), d)
     }
 
     /// Refused just where the facet lies in a face of the cube, as the one around it does.
@@ -224,8 +240,7 @@ impl Facet<'_> {
 
     /// The cell across has all points of the facet, and at the place one that the child has not.
     fn hold_points(&self, code: &[u8], place: u8) {
-        let d = self.split.dimension();
-        let points = points(&self.given(library::vertices(code, d), "the cell across"), d);
+        let points = self.points_across(code);
         let has_facet = self.points.iter().all(|point| points.contains(point));
         self.hold(has_facet, "the cell across lacks a point of it");
         let not_had = |point| !self.child().cell.vertices.contains(point);
@@ -249,9 +264,9 @@ fn points(bytes: &[u8], d: usize) -> Vec<Point> {
 fn answer(across: &Across, out: &mut [u8]) -> Crossed {
     match across {
         Err(refusal) => Crossed::refused(*refusal),
-        Ok((code, place)) => {
+        Ok((code, place, vertex)) => {
             out[..code.len()].copy_from_slice(code);
-            Crossed { refusal: DONE, place: *place, length: code.len() }
+            Crossed { refusal: DONE, place: *place, length: code.len(), vertex: *vertex }
         }
     }
 }
@@ -274,7 +289,7 @@ impl Comparison {
         let second = |[out]: &mut [Lent; 1]| answer(&across, out.open());
         let library = |[out]: &mut [Lent; 1]| library::cross(code, *j, out.open());
         self.tally.compare(kind, &input, [lent], second, library);
-        across.iter().for_each(|(code, place)| facet.hold_points(code, *place));
+        across.iter().for_each(|(code, place, _)| facet.hold_points(code, *place));
         *self.seen.entry((split.dimension(), kind)).or_default() += 1;
     }
 

@@ -90,11 +90,12 @@ impl Texts<'_> {
         loop {
             cells += 1;
             met.push(at.clone());
-            text += &format!("{} across {leaves}\n", hex(&code_of(&at)));
+            text += &format!("{} across {leaves}", hex(&code_of(&at)));
             let (next, place) = match across(&at, leaves as u8) {
-                Err(REFUSED_FACE) => return (text + &format!("a face of the cube, after {cells}\n"), false),
+                Err(REFUSED_FACE) => return (text + &format!("\na face of the cube, after {cells}\n"), false),
                 other => other.expect("a facet of the cell"),
             };
+            text += &format!(" to {}\n", shown(&cell_of(&next).vertices[place as usize], first.root.len()));
             let kept = cell_of(&at).vertices[keeps];
             leaves = cell_of(&next).vertices.iter().position(|v| *v == kept).expect("it is in the facet");
             (at, keeps) = (next, place as usize);

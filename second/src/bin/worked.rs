@@ -83,7 +83,9 @@ impl Cases<'_> {
     fn cross(&mut self, case: &str, code: &[u8], facet: u8) {
         let mut out = [0; 18];
         let answer = crossing::cross(&self.finder.read(code), facet, &mut out);
-        let across = format!("place {} of {}", answer.place, hex(&out[..answer.length]));
+        let [x1, x2, x3, x4] = answer.vertex;
+        let new = format!("place {}, vertex {x1} {x2} {x3} {x4}", answer.place);
+        let across = format!("{new}, of {}", hex(&out[..answer.length]));
         self.line(&format!("{case}: {} across {facet}", hex(code)), told(answer.refusal, across));
     }
 

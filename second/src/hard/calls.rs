@@ -44,12 +44,13 @@ pub struct Given<'a> {
     pub which: u8,
 }
 
-/// The answer of any entry. A value stands among the numbers bit for bit.
+/// The answer of any entry. A value stands among the numbers bit for bit. A vertex comes of a crossing alone.
 #[derive(Clone, Copy, PartialEq, Debug)]
 pub struct Answer {
     pub refusal: u8,
     pub offset: usize,
     pub numbers: [u64; 2],
+    pub vertex: [u16; 4],
 }
 
 impl Entry {
@@ -72,6 +73,10 @@ impl Entry {
 }
 
 impl Answer {
+    fn new(refusal: u8, offset: usize, numbers: [u64; 2]) -> Answer {
+        Answer { refusal, offset, numbers, vertex: [0; 4] }
+    }
+
     /// Bytes that the entry says it wrote to each output.
     pub fn written(&self, entry: Entry) -> [usize; 2] {
         let [first, second] = self.numbers.map(|n| n as usize);
@@ -85,49 +90,50 @@ impl Answer {
 
 impl From<u8> for Answer {
     fn from(refusal: u8) -> Answer {
-        Answer { refusal, offset: 0, numbers: [0, 0] }
+        Answer::new(refusal, 0, [0, 0])
     }
 }
 
 impl From<Written> for Answer {
     fn from(a: Written) -> Answer {
-        Answer { refusal: a.refusal, offset: 0, numbers: [a.length as u64, 0] }
+        Answer::new(a.refusal, 0, [a.length as u64, 0])
     }
 }
 
 impl From<PathWritten> for Answer {
     fn from(a: PathWritten) -> Answer {
-        Answer { refusal: a.refusal, offset: 0, numbers: [a.axes as u64, a.depth as u64] }
+        Answer::new(a.refusal, 0, [a.axes as u64, a.depth as u64])
     }
 }
 
 impl From<Crossed> for Answer {
     fn from(a: Crossed) -> Answer {
-        Answer { refusal: a.refusal, offset: 0, numbers: [a.length as u64, a.place as u64] }
+        let answer = Answer::new(a.refusal, 0, [a.length as u64, a.place as u64]);
+        Answer { vertex: a.vertex, ..answer }
     }
 }
 
 impl From<SheetAnswer> for Answer {
     fn from(a: SheetAnswer) -> Answer {
-        Answer { refusal: a.refusal, offset: a.offset, numbers: [a.records as u64, 0] }
+        Answer::new(a.refusal, a.offset, [a.records as u64, 0])
     }
 }
 
 impl From<LeafAnswer> for Answer {
     fn from(a: LeafAnswer) -> Answer {
-        Answer { refusal: a.refusal, offset: a.offset, numbers: [a.length as u64, a.number as u64] }
+        Answer::new(a.refusal, a.offset, [a.length as u64, a.number as u64])
     }
 }
 
 impl From<ValueAnswer> for Answer {
     fn from(a: ValueAnswer) -> Answer {
-        Answer { refusal: a.refusal, offset: a.offset, numbers: [a.value.to_bits(), 0] }
+        Answer::new(a.refusal, a.offset, [a.value.to_bits(), 0])
     }
 }
 
 impl From<CompatibleAnswer> for Answer {
     fn from(a: CompatibleAnswer) -> Answer {
-        Answer { refusal: a.refusal, offset: a.offset, numbers: [a.compatible as u64, 0] }
+        Answer::new(a.refusal, a.offset, [a.compatible as u64, 0])
     }
 }
 

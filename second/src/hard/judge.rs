@@ -137,15 +137,24 @@ fn refusals(entry: Entry) -> u16 {
 }
 
 /// What the header says of every answer, whatever the input: a refusal is one of the entry's own, its other
-/// numbers are zero, its offset lies in the sheet; and no more is written than was lent.
+/// numbers are zero, its offset lies in the sheet; no more is written than was lent; and a vertex lies in the
+/// cube, with zeros on the axes that the code's dimension lacks.
 #[inline]
 pub fn keeps_contract(given: &Given, answer: &Answer, lent: [usize; 2]) -> bool {
     let refusal = answer.refusal;
     if refusal == DONE {
         let written = answer.written(given.entry);
-        return answer.offset == 0 && written[0] <= lent[0] && written[1] <= lent[1];
+        let fits = answer.offset == 0 && written[0] <= lent[0] && written[1] <= lent[1];
+        return fits && (given.entry != Entry::Cross || is_vertex(&answer.vertex, given.one));
     }
     let in_sheet = given.entry.reads_a_sheet() && OF_SHEET >> refusal & 1 == 1;
     let offset = answer.offset == 0 || (in_sheet && answer.offset <= given.one.len());
-    refusal < 16 && refusals(given.entry) >> refusal & 1 == 1 && answer.numbers == [0, 0] && offset
+    let zeros = answer.numbers == [0, 0] && answer.vertex == [0; MOST_AXES];
+    refusal < 16 && refusals(given.entry) >> refusal & 1 == 1 && zeros && offset
+}
+
+fn is_vertex(vertex: &[u16; MOST_AXES], code: &[u8]) -> bool {
+    let d = code.first().map_or(0, |d| *d as usize);
+    let most = |a: usize| if a < d { CUBE_SIDE } else { 0 };
+    vertex.iter().enumerate().all(|(a, x)| *x as u32 <= most(a))
 }

@@ -129,7 +129,8 @@ impl<'a> Turn<'a> {
         }
     }
 
-    /// Crossing back gives the code and the facet, and the two cells share all points but one.
+    /// Crossing back gives the code, the facet and the vertex that it lacked; the two cells share all points
+    /// but one; and the new vertex is the point at its place.
     fn crossing(&mut self, code: &Bytes, facet: u8, points: &Bytes) -> Option<Bytes> {
         let given = of_code(Entry::Cross, code.get(), facet);
         let (answer, beyond) = self.roomy(&given);
@@ -143,8 +144,15 @@ impl<'a> Turn<'a> {
             fail(&given, [ROOM, 0], "crossing back does not lead back");
         }
         let (_, others) = self.roomy(&of_code(Entry::Vertices, beyond.get(), 0));
-        if !share_but_one(points, facet, &others, place, code.room[0] as usize) {
+        let d = code.room[0] as usize;
+        if !share_but_one(points, facet, &others, place, d) {
             fail(&given, [ROOM, 0], "the cell across has not the facet's vertices");
+        }
+        if answer.vertex != coordinates(&others, place, d) {
+            fail(&given, [ROOM, 0], &format!("the new vertex is not at {:?}", answer.vertex));
+        }
+        if back.vertex != coordinates(points, facet, d) {
+            fail(&given, [ROOM, 0], &format!("crossing back does not land at {:?}", back.vertex));
         }
         Some(beyond)
     }
@@ -353,6 +361,12 @@ fn two_bytes(bytes: &[u8]) -> Vec<u64> {
 
 fn vertex(points: &Bytes, place: usize, d: usize) -> &[u8] {
     &points.get()[2 * d * place..2 * d * (place + 1)]
+}
+
+/// A vertex as a crossing answers it: zeros on the axes that the dimension lacks.
+fn coordinates(points: &Bytes, place: u8, d: usize) -> [u16; MOST_AXES] {
+    let v = vertex(points, place as usize, d);
+    std::array::from_fn(|a| if a < d { v[2 * a] as u16 + 256 * v[2 * a + 1] as u16 } else { 0 })
 }
 
 /// All points but one of each are those of the other, in any order.

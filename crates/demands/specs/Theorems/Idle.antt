@@ -7,16 +7,20 @@ use Prim.Native.Nat.{ℕ, zero, suc, _≤_, _<_}
 use native.Mathlib.Omega.{arith}
 use lib.Dec.{T}
 use lib.ListN.{length, getD, take, drop}
-use Rattle.dimension.specs.Sizes.{isDimension, halvings, greatestDepth, level, splitPlace, boxDepth, codeLength}
+use Rattle.dimension.specs.Sizes.{isDimension, halvings, cubeSide, greatestDepth, level, splitPlace, boxDepth, codeLength}
+use Rattle.bisection.specs.Cells.{moved, corners, rootCell, cellBelow, cellOf}
 use Rattle.bisection.specs.Roots.{roots, arrangements, joined, picks, axesFrom}
 use Rattle.bisection.specs.Codes.{minus, axis, negated, turned, stepped, high, minusOn, orthantTo, orthant, step, nameBelow, nameOf, bytes, codeOf, dimensionOf, depthOf, entriesOf, orthantsOf, partsOf}
 use Rattle.bisection.specs.Refusals.{done, firstRefusal, each, fresh, permutes, orthantsFit, ownMinus, signsOwn, headRefusal, lengthOf, bodyRefusal, codeRefusal, isRoot, isPath}
 use Rattle.bisection.specs.Theorems.Table.{move, newAt, exchanged, negatedAt, entriesBy, flipped, runsOut, carried, orthantsBy, blockedBy, nextOwn, moveOf, blocked, acrossName, newPlace}
+use Rattle.bisection.specs.Theorems.Paths.{rootTo, pathTo}
+use Rattle.bisection.specs.Theorems.CodePaths.{rootOf, pathOf}
 use Rattle.codes.specs.declared.Written.{Written}
 use Rattle.codes.specs.declared.PathWritten.{PathWritten}
 use Rattle.codes.specs.Outcomes.{PathToCode, toPathRefusal, CodeToPath}
 use Rattle.codes.specs.Determined.{path-to-code-determined}
-use Rattle.crossing.specs.Outcome.{Crosses}
+use Rattle.crossing.specs.declared.Vertex.{Vertex}
+use Rattle.crossing.specs.Outcome.{byAxes, nowhere, Crosses}
 use Rattle.crossing.specs.Determined.{determined}
 use Rattle.sheets.specs.declared.SheetAnswer.{SheetAnswer}
 use Rattle.sheets.specs.Sheets.{SheetIs, Good}
@@ -39,15 +43,16 @@ second = 0x02 ∷ 0x00 ∷ 0x02 ∷ 0x01 ∷ []
 abbrev deeper : List ℕ
 deeper = 0x02 ∷ 0x02 ∷ 0x81 ∷ 0x02 ∷ 0x01 ∷ []
 
-shown : Every (path-to-code (1 ∷ 2 ∷ []) [] first ∷ path-to-code (2 ∷ 1 ∷ []) [] second ∷ path-to-code (1 ∷ 2 ∷ []) (0 ∷ 1 ∷ []) deeper ∷ cross first 1 second 1 ∷ [])
+shown : Every (path-to-code (1 ∷ 2 ∷ []) [] first ∷ path-to-code (2 ∷ 1 ∷ []) [] second ∷ path-to-code (1 ∷ 2 ∷ []) (0 ∷ 1 ∷ []) deeper ∷ cross first 1 second 1 (0 ∷ 4096 ∷ []) ∷ [])
 unfolding Shown codeOf bytes nameOf nameBelow step stepped turned negated minus axis orthant orthantTo minusOn high level splitPlace boxDepth codeLength halvings
     greatestDepth isDimension codeRefusal headRefusal lengthOf bodyRefusal firstRefusal each fresh permutes orthantsFit ownMinus signsOwn dimensionOf depthOf entriesOf
     orthantsOf partsOf isRoot isPath move newAt exchanged negatedAt entriesBy flipped runsOut carried orthantsBy blockedBy nextOwn moveOf blocked acrossName newPlace
+    cellOf cellBelow rootCell corners moved cubeSide rootOf pathOf rootTo pathTo
 shown = every _ (
     record { dimension = refl; depth = refl; good = refl; steps = refl; is = refl }
     and record { dimension = refl; depth = refl; good = refl; steps = refl; is = refl }
     and record { dimension = refl; depth = refl; good = refl; steps = refl; is = refl }
-    and record { passes = refl; facet = refl; free = refl; is = refl; at = refl }
+    and record { passes = refl; facet = refl; free = refl; is = refl; at = refl; lands = refl }
     and no-more)
 
 first-code : Answered (PathToCode (1 ∷ 2 ∷ []) []) first
@@ -62,7 +67,7 @@ deeper-code : Answered (PathToCode (1 ∷ 2 ∷ []) (0 ∷ 1 ∷ [])) deeper
 unfolding Every Holds
 deeper-code = shown .1 .1 .0
 
-crossing : (before : List ℕ) → 4 ≤ length before → Crosses first 1 before (record { refusal = done; place = 1; length = 4 }) (second ++ drop 4 before)
+crossing : (before : List ℕ) → 4 ≤ length before → Crosses first 1 before (record { refusal = done; place = 1; length = 4; vertex = byAxes (0 ∷ 4096 ∷ []) }) (second ++ drop 4 before)
 unfolding Every Holds
 crossing = shown .1 .1 .1 .0
 
@@ -76,7 +81,7 @@ refuses-paths : (number : ℕ) → number ≢ done → ((root path before : List
 unfolding Answered
 refuses-paths number k f = k (ap (λ (r : Written). r .refusal) (path-to-code-determined (1 ∷ 2 ∷ []) [] (f (1 ∷ 2 ∷ []) [] four) (first-code four (omega arith)) .0))
 
-refuses-crossings : (number : ℕ) → number ≢ done → ((code : List ℕ) (i : ℕ) (before : List ℕ) → Crosses code i before (record { refusal = number; place = 0; length = 0 }) before) → ⊥
+refuses-crossings : (number : ℕ) → number ≢ done → ((code : List ℕ) (i : ℕ) (before : List ℕ) → Crosses code i before (record { refusal = number; place = 0; length = 0; vertex = nowhere }) before) → ⊥
 refuses-crossings number k f = k (determined (f first 1 four) (crossing four (omega arith)) .refusal)
 
 -- the root of each code, as code to path reads it into two cells
@@ -101,8 +106,9 @@ head-of (suc n) (x ∷ l) e = ap (λ (l : List ℕ). getD l 0 0) e
 fixed-root : (root : List ℕ) (r : List ℕ → PathWritten) (path : List ℕ → List ℕ) → ((code roots paths : List ℕ) → CodeToPath code roots paths (r code) (root ++ drop (length root) roots) (path code)) → ⊥
 fixed-root root r path f = omega (arith, head-of (r first .axes) _ (first-root (r first) _ (path first) (f first (0 ∷ 0 ∷ []) [])), head-of (r second .axes) _ (second-root (r second) _ (path second) (f second (0 ∷ 0 ∷ []) [])))
 
-own-cell : (place : List ℕ → ℕ → ℕ) → ((code : List ℕ) (i : ℕ) (before : List ℕ) → Crosses code i before (record { refusal = done; place = place code i; length = length code }) (code ++ drop (length code) before)) → ⊥
-own-cell place f = omega (arith, ap (λ (l : List ℕ). getD l 2 0) (determined (f first 1 four) (crossing four (omega arith)) .buffer))
+own-cell : (place : List ℕ → ℕ → ℕ) (vertex : List ℕ → ℕ → Vertex)
+    → ((code : List ℕ) (i : ℕ) (before : List ℕ) → Crosses code i before (record { refusal = done; place = place code i; length = length code; vertex = vertex code i }) (code ++ drop (length code) before)) → ⊥
+own-cell place vertex f = omega (arith, ap (λ (l : List ℕ). getD l 2 0) (determined (f first 1 four) (crossing four (omega arith)) .buffer))
 
 writes-nothing : (r : List ℕ → List ℕ → Written) → ((root path before : List ℕ) → PathToCode root path before (r root path) before) → ⊥
 unfolding Answered

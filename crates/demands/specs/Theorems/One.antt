@@ -34,9 +34,12 @@ writes-clean : {refusal : ℕ} {answer before : List ℕ} {r : Written} {after :
 unfolding Zero
 writes-clean {before = before} w l k = let o = w .refused (λ e. k (w .number ∙ e)) in record { in-table = omega (arith, w .number); zero = (o .0, tt); kept = ap (λ (b : List ℕ). b ∷ []) (o .1) }
 
-refuses-clean : {number : ℕ} {before : List ℕ} {r : Crossed} {after : List ℕ} → Refuses number before r after → number ≤ 15 → Clean (r .refusal) (r .place ∷ r .length ∷ []) (before ∷ []) (after ∷ [])
+abbrev others : Crossed → List ℕ
+others r = r .place ∷ r .length ∷ r .vertex .first ∷ r .vertex .second ∷ r .vertex .third ∷ r .vertex .fourth ∷ []
+
+refuses-clean : {number : ℕ} {before : List ℕ} {r : Crossed} {after : List ℕ} → Refuses number before r after → number ≤ 15 → Clean (r .refusal) (others r) (before ∷ []) (after ∷ [])
 unfolding Zero
-refuses-clean w l = record { in-table = omega (arith, w .number); zero = (w .place, (w .size, tt)); kept = ap (λ (b : List ℕ). b ∷ []) (w .kept) }
+refuses-clean w l = record { in-table = omega (arith, w .number); zero = (w .place, (w .size, (λ i. w .vertex i .first, (λ i. w .vertex i .second, (λ i. w .vertex i .third, (λ i. w .vertex i .fourth, tt)))))); kept = ap (λ (b : List ℕ). b ∷ []) (w .kept) }
 
 to-path-clean : (code roots paths : List ℕ) (r : PathWritten) (roots' paths' : List ℕ) → CodeToPath code roots paths r roots' paths' → r .refusal ≢ done → Clean (r .refusal) (r .axes ∷ r .depth ∷ []) (roots ∷ paths ∷ []) (roots' ∷ paths' ∷ [])
 unfolding Zero
@@ -44,15 +47,15 @@ to-path-clean code roots paths r roots' paths' w k =
     let o = w .refused (λ e. k (w .number ∙ e)) in
     record { in-table = omega (arith, w .number, to-path-in code (length roots) (length paths)); zero = (o .0, (o .1, tt)); kept = λ i. o .2 i ∷ o .3 i ∷ [] }
 
-cross-clean : (code : List ℕ) (facet : ℕ) (before : List ℕ) (r : Crossed) (after : List ℕ) → Crosses code facet before r after → r .refusal ≢ done → Clean (r .refusal) (r .place ∷ r .length ∷ []) (before ∷ []) (after ∷ [])
+cross-clean : (code : List ℕ) (facet : ℕ) (before : List ℕ) (r : Crossed) (after : List ℕ) → Crosses code facet before r after → r .refusal ≢ done → Clean (r .refusal) (others r) (before ∷ []) (after ∷ [])
 cross-clean code facet before r after c k = go (ℕ-discrete (codeRefusal code) done) (decLt (dimensionOf code) facet)
   where
-    met : Meets code facet before r after → Clean (r .refusal) (r .place ∷ r .length ∷ []) (before ∷ []) (after ∷ [])
+    met : Meets code facet before r after → Clean (r .refusal) (others r) (before ∷ []) (after ∷ [])
     met (wall w q) = refuses-clean q (omega arith)
     met (short code' j b l q) = refuses-clean q (omega arith)
     met (crossed code' j b l q) = absurd (k (q .number))
 
-    go : Dec (codeRefusal code ≡ done) → Dec (dimensionOf code < facet) → Clean (r .refusal) (r .place ∷ r .length ∷ []) (before ∷ []) (after ∷ [])
+    go : Dec (codeRefusal code ≡ done) → Dec (dimensionOf code < facet) → Clean (r .refusal) (others r) (before ∷ []) (after ∷ [])
     go (no n) l = refuses-clean (c .own n) (code-in code)
     go (yes p) (yes l) = refuses-clean (c .above p l) (omega arith)
     go (yes p) (no l) = met (c .meets p (omega arith))

@@ -6,7 +6,7 @@ use Prim.Native.Nat.{ℕ, _≤_}
 use native.Mathlib.Omega.{arith}
 use lib.ListN.{length, take}
 use Rattle.dimension.specs.Sizes.{codeLength}
-use Rattle.bisection.specs.Cells.{Cell}
+use Rattle.bisection.specs.Cells.{Cell, vertex}
 use Rattle.bisection.specs.Codes.{dimensionOf, depthOf}
 use Rattle.bisection.specs.Refusals.{done, refusedFace, codeRefusal}
 use Rattle.bisection.specs.Facets.{facet, InFace, IsCell, Shares, Across}
@@ -14,7 +14,7 @@ use Rattle.bisection.specs.Theorems.CodePaths.{length-root, length-path-of}
 use Rattle.bisection.specs.Theorems.CodeCells.{cell-passes, one-cell}
 use Rattle.codes.specs.Fronts.Laws.{code-length}
 use Rattle.crossing.specs.declared.Crossed.{Crossed}
-use Rattle.crossing.specs.Outcome.{Meets, wall, short, crossed, Crosses}
+use Rattle.crossing.specs.Outcome.{byAxes, nowhere, Meets, wall, short, crossed, Crosses}
 use Rattle.crossing.specs.Determined.{given-done, crossing-back}
 use Rattle.demands.specs.Three.{Call, Crossing, Demand3}
 
@@ -65,12 +65,23 @@ module _ {code : List ℕ} {vs : Cell} {i : ℕ} {before : List ℕ} {r : Crosse
   one-other : r .refusal ≡ done → Across code i (take (r .length) after) (r .place)
   one-other e = let g = given-done (c .meets) e in subst (λ (l : List ℕ). Across code i l (r .place)) (sym (g .front)) (g .across)
 
+  lands-there : r .refusal ≡ done → (ws : Cell) → IsCell (take (r .length) after) ws → r .vertex ≡ byAxes (vertex ws (r .place))
+  lands-there e ws w = let g = given-done (c .meets) e in g .vertex ws (subst (λ (l : List ℕ). IsCell l ws) (g .front) w)
+
+  lands-nowhere : r .refusal ≢ done → r .vertex ≡ nowhere
+  lands-nowhere k = go met
+    where
+      go : Meets code i before r after → r .vertex ≡ nowhere
+      go (wall w q) = q .vertex
+      go (short code' j b l q) = q .vertex
+      go (crossed code' j b l q) = absurd (k (q .number))
+
   and-back : r .refusal ≡ done → (before' : List ℕ) (r' : Crossed) (after' : List ℕ) → length code ≤ length before' → Crosses (take (r .length) after) (r .place) before' r' after'
-      → (r' .refusal ≡ done) × (take (r' .length) after' ≡ code) × (r' .place ≡ i)
-  and-back e before' r' after' l b = let g = crossing-back (c .meets) e l b in (g .refusal, g .front, g .place)
+      → (r' .refusal ≡ done) × (take (r' .length) after' ≡ code) × (r' .place ≡ i) × (r' .vertex ≡ byAxes (vertex vs i))
+  and-back e before' r' after' l b = let g = crossing-back (c .meets) e l b in (g .refusal, g .front, g .place, g .vertex vs (c .cell))
 
   pub crossing : Crossing code vs i r after
-  crossing = record { refused = only-face; face = in-face; no-face = in-none; alone = no-other; across = one-other; back = and-back }
+  crossing = record { refused = only-face; face = in-face; no-face = in-none; alone = no-other; across = one-other; lands = lands-there; refused-nowhere = lands-nowhere; back = and-back }
 
 pub demand-3 : Demand3
 unfolding Demand3

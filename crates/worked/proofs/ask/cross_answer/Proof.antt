@@ -12,5 +12,6 @@ slice-aggregate-line c = let called : tie.After-cross = search in let passed : t
 
 pub cross-answer-spec : {M : Type 1} → statement M
 cross-answer-spec = tie.close (tie.spec (λ c. search needs) (λ c κs. search needs) (λ c κs. search needs) (λ c. search needs) (λ c. search needs)
-    (λ c κs. search needs) (λ c κs. search needs) (λ c κs. search needs) (λ c. search needs) (λ c κs. search needs) array-share-prefix-out
+    (λ c κs. search needs) (λ c κs. search needs) (λ c κs. search needs) (λ c. search needs) (λ c κs. search needs) (λ c κs. search needs)
+    (λ c. search needs) (λ c κs. search needs) array-share-prefix-out
     slice-aggregate-line (λ c κs. search needs) (λ c. search needs))
