@@ -32,7 +32,7 @@ extern "C" {
 #endif
 
 /* The version. It stands here alone: the scripts read this line. */
-#define RMK_VERSION "0.9.0"
+#define RMK_VERSION "0.10.0"
 
 /* Sizes. The longest ones suffice as lent outputs in every dimension. */
 #define RMK_HALVINGS 12        /* the greatest depth is this times the dimension */

@@ -15,7 +15,7 @@ use lib.Seq.{getD-take, drop-cons, paste}
 use borrow.Author.Tests.{eq-eqb, ne-eqb}
 use Rattle.common.specs.Putting.{put, put-two, Puts, Putting, putting-start, putting-next, putting-end}
 use Rattle.dimension.specs.Sizes.{halvings, cubeSide, boxDepth, boxSide, sideAfter, splitPlace, codeLength, pointsLength}
-use Rattle.dimension.specs.Laws.{Dimension, box-in, cube-two-bytes, side-first, halvings-few}
+use Rattle.dimension.specs.Laws.{Dimension, box-in, cube-two-bytes, side-first, side-of, halvings-few}
 use Rattle.bisection.specs.Cells.{Point, Cell, coordinate, vertex, cellOf, pointBytes, cellBytes}
 use Rattle.bisection.specs.Codes.{axis, minus, high, IsCodeOf, dimensionOf, depthOf, entriesOf, orthantsOf, partsOf}
 use Rattle.bisection.specs.Refusals.{done, codeRefusal}
@@ -31,7 +31,8 @@ use Rattle.entries.specs.Passed.{Checked, checked}
 use Rattle.fours.specs.Fours.{noEntries}
 use Rattle.fours.specs.Laws.{pasted-at, pasted-none}
 use Rattle.corners.specs.PointWords.{pointWord, inWord, onAxis, coordinateBytes, in-same, in-add, in-small, in-point, word-bytes, bytes-length}
-use Rattle.corners.specs.Lows.{OrthantsReady, low-inside}
+use Rattle.corners.specs.Steps.{rise-picked, rise-closed}
+use Rattle.corners.specs.Lows.{lowsIn, OrthantsReady, low-inside}
 
 -- vertex j of the cell of a code that passes
 abbrev pub cellIn : List ℕ → Cell
@@ -44,7 +45,7 @@ vertexIn code j = vertex (cellIn code) j
 -- word; and the split place
 pub record Frame (code : List ℕ) (lows side entries split : ℕ) : Type 0 where
   pub passing : codeRefusal code ≡ done
-  pub lows-are : lows ≡ inWord (λ a. boxLow a 0 (orthantsOf code))
+  pub lows-are : lows ≡ lowsIn (orthantsOf code)
   pub side-is : side ≡ boxSide (dimensionOf code) (depthOf code)
   pub entries-are : (t : ℕ) → getD (bytesOf entries) t 0 ≡ getD (entriesOf code) t 0
   pub split-is : split ≡ splitPlace (dimensionOf code) (depthOf code)
@@ -91,23 +92,6 @@ closed-most s m i k j = go m (leb j i) (leb j k)
     go true false true = omega arith
     go false false true = omega arith
     go m false false = omega arith
-
--- as the code picks it
-pub picks : (m n : Bool) {a b c x y : ℕ} → m ≡ n → a ≡ x → b ≡ y → c ≡ cond m a b → c ≡ cond n x y
-picks m n e f g h = rw (h, e, f, g) refl
-
-pub rise-picked : (s k e t j : ℕ) {far back r : ℕ} → far ≡ cond (leb j k) s (s / 2) → back ≡ cond (leb j k) 0 (s / 2)
-    → r ≡ cond (minus e) (cond (leb j t) s back) (cond (leb j t) 0 far) → r ≡ closed 0 s (minus e) t k j
-unfolding closed
-rise-picked s k e t j f g h = rw (h, f, g) (go (minus e) (leb j t) (leb j k))
-  where
-    go : (m b c : Bool) → cond m (cond b s (cond c 0 (s / 2))) (cond b 0 (cond c s (s / 2))) ≡ cond b (cond m (0 + s) 0) (cond c (cond (not m) (0 + s) 0) (0 + s / 2))
-    go true true c = omega arith
-    go false true c = omega arith
-    go true false true = omega arith
-    go true false false = omega arith
-    go false false true = omega arith
-    go false false false = omega arith
 
 -- ---- what the entries add on an axis: x t, for the entry t that has the axis, and nothing for the others
 
@@ -244,6 +228,10 @@ module _ (code : List ℕ) (e : codeRefusal code ≡ done) where
   pub side-small : boxSide (dimensionOf code) (depthOf code) < 65536
   side-small = omega (arith, low-side 1, cube-two-bytes)
 
+  -- a cell that is still split in its box has a whole middle
+  pub side-even : splitPlace (dimensionOf code) (depthOf code) < dimensionOf code → boxSide (dimensionOf code) (depthOf code) % 2 ≡ 0
+  side-even = side-of (dimensionOf code) (depthOf code) (omega (arith, k .range .two)) (k .good .depth) .even
+
   module _ (j : ℕ) (h : j ≤ dimensionOf code) where
     -- an axis that an entry has, and one past the dimension
     coordinate-is : (a : ℕ) → 1 ≤ a → boxLow a 0 os + up es (riseIn code j) 4 a ≡ coordinate (vertexIn code j) a
@@ -253,7 +241,7 @@ module _ (code : List ℕ) (e : codeRefusal code ≡ done) where
         has u = ap (λ (x : ℕ). boxLow a 0 os + x) (up-has code-signed (riseIn code j) a l u 4 (k .range .few))
             ∙ sym (closed-above (boxLow a 0 os) (boxSide d (depthOf code)) (minus (getD es (t .place) 0)) (t .place) (splitPlace d (depthOf code)) j)
             ∙ sym (subst (λ (b : ℕ). along (cellIn code) b j ≡ closed (boxLow b 0 os) (boxSide d (depthOf code)) (minus (getD es (t .place) 0)) (t .place) (splitPlace d (depthOf code)) j)
-                  (t .is) (unfold partsOf in drawn-code .reads (t .place) (t .below) j h))
+            (t .is) (unfold partsOf in drawn-code .reads (t .place) (t .below) j h))
           where
             t : Stands es a d
             t = there code-signed (riseIn code j) a l u
@@ -264,8 +252,12 @@ module _ (code : List ℕ) (e : codeRefusal code ≡ done) where
             (sym (List·getD-eq-default (vertexIn code j) 0 {n = a - 1} (omega (arith, code-sized .dims j h))))
 
     pub part-small : (t a : ℕ) → 1 ≤ a → boxLow a 0 (orthantsOf code) + up (entriesOf code) (riseIn code j) t a < 65536
-    part-small t a l = omega (arith, low-side a, cube-two-bytes,
-        up-most code-signed (riseIn code j) a l (boxSide d (depthOf code)) (λ t. closed-most (boxSide d (depthOf code)) (minus (getD es t 0)) t (splitPlace d (depthOf code)) j) t)
+    part-small t a l = omega (
+      arith,
+      low-side a,
+      cube-two-bytes,
+      up-most code-signed (riseIn code j) a l (boxSide d (depthOf code)) (λ t. closed-most (boxSide d (depthOf code)) (minus (getD es t 0)) t (splitPlace d (depthOf code)) j) t,
+    )
 
     pub vertex-is : inWord (λ a. boxLow a 0 (orthantsOf code) + up (entriesOf code) (riseIn code j) 4 a) ≡ pointWord (vertexIn code j)
     vertex-is = in-same (λ a. boxLow a 0 os + up es (riseIn code j) 4 a) (coordinate (vertexIn code j)) (λ a l u. coordinate-is a l)
@@ -306,20 +298,24 @@ module _ (code : List ℕ) (e : codeRefusal code ≡ done) {n : ℕ} (q : n ≡ 
   pub frame-side : cubeSide / 2 ^ (length code - 2 - n) ≡ boxSide (dimensionOf code) (depthOf code)
   frame-side = unfold boxSide sideAfter in rw (q, code-boxes code e) refl
 
-  pub frame-orthants : OrthantsReady code n
-  frame-orthants = record {
-    four = omega (arith, code-room code e, code-dimension code e .two);
+  pub frame-orthants : {side : ℕ} → side ≡ boxSide (dimensionOf code) (depthOf code) → OrthantsReady code n side
+  frame-orthants f = record {
+    two = omega (arith, q, code-dimension code e .two);
+    few = omega (arith, q, code-dimension code e .few);
     room = omega (arith, q, code-room code e);
     most = omega (arith, q, code-boxes code e, code-few code e);
-    few = omega (arith, q, code-dimension code e .few);
     fit = rw q (unfold orthantsOf in code-orthants code e);
+    is = f ∙ unfold boxSide in rw (q, code-boxes code e) refl;
   }
 
-  pub frame-made : {lows side entries split : ℕ} → lows ≡ inWord (λ a. boxLow a 0 (drop (2 + n) code)) → side ≡ boxSide (dimensionOf code) (depthOf code)
+  pub frame-lows : {lows : ℕ} → lows ≡ lowsIn (drop (2 + n) code) → lows ≡ lowsIn (orthantsOf code)
+  frame-lows f = f ∙ unfold orthantsOf in rw q refl
+
+  pub frame-made : {lows side entries split : ℕ} → lows ≡ lowsIn (orthantsOf code) → side ≡ boxSide (dimensionOf code) (depthOf code)
       → bytesOf entries ≡ paste noEntries 0 (drop 2 code) n → split ≡ splitPlace n (depthOf code) → Frame code lows side entries split
   frame-made {lows} {side} {entries} {split} f g h p = record {
     passing = e;
-    lows-are = f ∙ unfold orthantsOf in rw q refl;
+    lows-are = f;
     side-is = g;
     entries-are = λ t. each t (decLt t n);
     split-is = p ∙ ap (λ (m : ℕ). splitPlace m (depthOf code)) q;
@@ -335,26 +331,31 @@ module _ (code : List ℕ) (e : codeRefusal code ≡ done) {n : ℕ} (q : n ≡ 
       each t (yes l) = pasted-at (drop 2 code) few room h t l ∙ code-entry code e t (omega (arith, q))
       each t (no l) = pasted-none (drop 2 code) few room h .none t (omega arith) ∙ sym (List·getD-eq-default (entriesOf code) 0 {n = t} (omega (arith, q, code-signed code e .size)))
 
+pub vertex-side : {lows side entries split j : ℕ} → VertexReady lows side entries split j → side < 65536
+vertex-side r = omega (arith, r .frame .side-is, side-small (r .code) (r .frame .passing))
+
 -- ---- the walk over the entries: what the first t of them add, whatever code's they are
-pub record Rising (lows side entries split j far back t w : ℕ) : Type 0 where
+pub record Rising (lows side entries split j reach far back t w : ℕ) : Type 0 where
   pub ready : VertexReady lows side entries split j
-  pub far-is : far ≡ cond (leb j split) side (side / 2)
-  pub back-is : back ≡ cond (leb j split) 0 (side / 2)
+  pub reaches : reach ≡ cond (leb j split) side (side / 2)
+  pub far-is : far ≡ reach
+  pub back-is : back ≡ side - reach
   pub few : t ≤ 4
   pub is : (code : List ℕ) → Frame code lows side entries split → j ≤ dimensionOf code → w ≡ inWord (λ a. boxLow a 0 (orthantsOf code) + up (entriesOf code) (riseIn code j) t a)
 
-pub rise-start : {lows side entries split j far back : ℕ} → VertexReady lows side entries split j → far ≡ cond (leb j split) side (side / 2) → back ≡ cond (leb j split) 0 (side / 2)
-    → Rising lows side entries split j far back 0 lows
+pub rise-start : {lows side entries split j reach far back : ℕ} → VertexReady lows side entries split j → reach ≡ cond (leb j split) side (side / 2) → far ≡ reach → back ≡ side - reach
+    → Rising lows side entries split j reach far back 0 lows
 unfolding up
-rise-start r f g = record {
+rise-start r f g h = record {
   ready = r;
-  far-is = f;
-  back-is = g;
+  reaches = f;
+  far-is = g;
+  back-is = h;
   few = omega arith;
   is = λ code o h. o .lows-are ∙ in-same (λ a. boxLow a 0 (orthantsOf code)) (λ a. boxLow a 0 (orthantsOf code) + 0) (λ a l u. sym (add-zero (boxLow a 0 (orthantsOf code))));
 }
 
-module _ {lows side entries split j far back t w : ℕ} (on : Rising lows side entries split j far back t w) where
+module _ {lows side entries split j reach far back t w : ℕ} (on : Rising lows side entries split j reach far back t w) where
   pub rise-end : 4 ≤ t → VertexOf lows side entries split j w
   rise-end h = record {
     is = λ code o l. on .is code o l ∙ ap (λ (n : ℕ). inWord (λ a. boxLow a 0 (orthantsOf code) + up (entriesOf code) (riseIn code j) n a)) (omega (arith, on .few)) ∙ vertex-is code (o .passing) j l;
@@ -371,25 +372,25 @@ module _ {lows side entries split j far back t w : ℕ} (on : Rising lows side e
     entry-is : (code : List ℕ) → Frame code lows side entries split → e ≡ getD (entriesOf code) t 0
     entry-is code o = b ∙ o .entries-are t
 
-    above : x ≡ closed 0 side (minus e) t split j
-    above = rise-picked side split e t j (on .far-is) (on .back-is) q
+    above : (code : List ℕ) → Frame code lows side entries split → j ≤ dimensionOf code → x ≡ closed 0 side (minus e) t split j
+    above code o l = rise-picked side reach (minus e) t j (on .far-is) (on .back-is) q ∙ rise-closed side split (minus e) t j (on .reaches) (λ u. rw (o .side-is) (side-even code (o .passing) (omega (arith, u, l, o .split-is))))
 
-    adds : (code : List ℕ) → Frame code lows side entries split → x ≡ riseIn code j t
-    adds code o = above ∙ rw (o .side-is, o .split-is, entry-is code o) refl
+    adds : (code : List ℕ) → Frame code lows side entries split → j ≤ dimensionOf code → x ≡ riseIn code j t
+    adds code o l = above code o l ∙ rw (o .side-is, o .split-is, entry-is code o) refl
 
     signed : Signed (dimensionOf code) (entriesOf code)
     signed = code-signed code (o .passing)
 
     pub rise-ready : (x < 65536) × (axis e ≤ 4) × (axis e ≡ 0 → x ≡ 0)
     rise-ready = (
-      omega (arith, above, closed-most side (minus e) t split j, o .side-is, side-small code (o .passing)),
+      omega (arith, above code o (on .ready .place), closed-most side (minus e) t split j, vertex-side (on .ready)),
       go (decLt t (dimensionOf code)) .0,
       go (decLt t (dimensionOf code)) .1,
     )
       where
         go : Dec (t < dimensionOf code) → (axis e ≤ 4) × (axis e ≡ 0 → x ≡ 0)
         go (yes l) = rw (entry-is code o) (omega (arith, signed .high t l, code-dimension code (o .passing) .few), λ z. absurd (omega (arith, z, signed .low t l)))
-        go (no l) = (rw (none, axis-none) (omega arith), λ z. above ∙ rw none (closed-near 0 side (minus 0) t split j (omega (arith, on .ready .place)) ∙ unfold minus in refl))
+        go (no l) = (rw (none, axis-none) (omega arith), λ z. above code o (on .ready .place) ∙ rw none (closed-near 0 side (minus 0) t split j (omega (arith, on .ready .place)) ∙ unfold minus in refl))
           where
             none : e ≡ 0
             none = entry-is code o ∙ List·getD-eq-default (entriesOf code) 0 {n = t} (omega (arith, signed .size))
@@ -397,16 +398,16 @@ module _ {lows side entries split j far back t w : ℕ} (on : Rising lows side e
     module _ {r : ℕ} (p : r ≡ inWord (onAxis (axis e) x)) where
       next : (code : List ℕ) → Frame code lows side entries split → j ≤ dimensionOf code → w + r ≡ inWord (λ a. boxLow a 0 (orthantsOf code) + up (entriesOf code) (riseIn code j) (t + 1) a)
       unfolding up
-      next code o l = rw (on .is code o l, p, entry-is code o, adds code o, add-one t)
+      next code o l = rw (on .is code o l, p, entry-is code o, adds code o l, add-one t)
           (in-add (λ a. boxLow a 0 (orthantsOf code) + up (entriesOf code) (riseIn code j) t a) (onAxis (axis (getD (entriesOf code) t 0)) (riseIn code j t))
           ∙ in-same (λ a. boxLow a 0 (orthantsOf code) + up (entriesOf code) (riseIn code j) t a + onAxis (axis (getD (entriesOf code) t 0)) (riseIn code j t) a)
-                (λ a. boxLow a 0 (orthantsOf code) + (up (entriesOf code) (riseIn code j) t a + onAxis (axis (getD (entriesOf code) t 0)) (riseIn code j t) a)) (λ a l u. omega arith))
+          (λ a. boxLow a 0 (orthantsOf code) + (up (entriesOf code) (riseIn code j) t a + onAxis (axis (getD (entriesOf code) t 0)) (riseIn code j t) a)) (λ a l u. omega arith))
 
       pub rise-fits : w + r < 2 ^ 64
       rise-fits = rw (next code o (on .ready .place)) (in-small (λ a. boxLow a 0 (orthantsOf code) + up (entriesOf code) (riseIn code j) (t + 1) a) (λ a l u. part-small code (o .passing) j (on .ready .place) (t + 1) a l))
 
-      pub rise-next : Rising lows side entries split j far back (t + 1) (w + r)
-      rise-next = record { ready = on .ready; far-is = on .far-is; back-is = on .back-is; few = omega arith; is = next }
+      pub rise-next : Rising lows side entries split j reach far back (t + 1) (w + r)
+      rise-next = record { ready = on .ready; reaches = on .reaches; far-is = on .far-is; back-is = on .back-is; few = omega arith; is = next }
 
 -- ---- coordinates written one after the other
 pub record Coordinates (at d w : ℕ) (before : List ℕ) (to left n : ℕ) (now : List ℕ) : Type 0 where

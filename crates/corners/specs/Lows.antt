@@ -2,20 +2,25 @@
 use mathlib.Core.Path.{_≡_, refl, sym, ap, _∙_}
 use mathlib.Core.Bool.{Bool, true, false, cond}
 use mathlib.Core.List.{List, [], _∷_}
-use Prim.Native.Nat.{ℕ, zero, suc, _+_, _-_, _*_, _/_, _%_, _^_, min, _≤_, _<_}
+use Prim.Native.Nat.{ℕ, zero, suc, _+_, _-_, _*_, _/_, _%_, _^_, _≤_, _<_}
 use native.Mathlib.Omega.{arith}
-use native.Mathlib.Nat.{add-zero, zero-add, add-suc, suc-add, zero-mul, add-mul, mul-assoc, mul-left-comm, mul-div-left, div-self, lt-of-lt-of-le}
-use native.Mathlib.Decide.{decLt}
-use lib.ListN.{length, getD, drop, length-drop, drop-of-length-le, List·getD-eq-default}
-use lib.Pow.{pow-pos, pow-mono}
-use lib.Seq.{getD-drop, drop-cons}
-use Rattle.dimension.specs.Sizes.{halvings, cubeSide, sideAfter}
-use Rattle.dimension.specs.Laws.{side-half, side-twice, halvings-few}
+use native.Mathlib.Nat.{add-zero, zero-add, add-suc, suc-add, mul-comm, mul-left-comm, one-mul, lt-of-lt-of-le, div-add-mod', mod-lt, mod-eq-of-lt}
+use lib.Arith.{digits-mod}
+use lib.Bits.{bitAnd}
+use lib.ListN.{length, getD, drop, length-drop}
+use lib.Pow.{pow-pos, pow-mono, shl-exact}
+use lib.Seq.{getD-drop}
+use Rattle.dimension.specs.Sizes.{halvings, sideAfter}
+use Rattle.dimension.specs.Laws.{side-half, side-first, cube-two-bytes, halvings-few}
 use Rattle.bisection.specs.Codes.{high}
 use Rattle.bisection.specs.Theorems.Drawn.{boxLow}
-use Rattle.entries.specs.Masks.{high-none}
+use Rattle.bisection.specs.Theorems.Crossing.Boxes.{boxAt, boxLow-boxAt}
 use Rattle.entries.specs.Words.{wordOf, fourFrom}
-use Rattle.corners.specs.PointWords.{inWord, in-same, in-times, in-small}
+use Rattle.corners.specs.PointWords.{inWord, in-same, in-times, in-small, in-low}
+
+-- the low sides of the box that the orthants give, as one point
+abbrev pub lowsIn : List ℕ → ℕ
+lowsIn os = inWord (λ a. boxLow a 0 os)
 
 -- 1 on each axis that the orthant is high on
 unfoldable pub spreadOf : ℕ → ℕ
@@ -77,144 +82,182 @@ low-inside a M (o ∷ os) = rw (add-suc M (length os), ← suc-add M (length os)
     under true s = omega arith
     under false s = omega arith
 
--- four orthants read from a code, those before them shifted out of the four bytes
-module _ (code : List ℕ) (small : (i : ℕ) → getD code i 0 < 256) (first i : ℕ) (four : 4 ≤ length code) (some : first ≤ length code) where
-  abbrev os : List ℕ
-  os = drop first code
+-- ---- the digits
 
-  there : (m q : ℕ) → first + m ≡ q → getD code q 0 ≡ getD os m 0
-  there m q g = sym (getD-drop first code m 0 ∙ ap (λ (j : ℕ). getD code j 0) g)
-
-  past : (m : ℕ) → length code ≤ first + m → 0 ≡ getD os m 0
-  past m h = sym (List·getD-eq-default os 0 {n = m} (rw (length-drop first code) (omega arith)))
-
-  pub orthants-read : {p q w : ℕ} → p ≡ min (first + i) (length code - 4) → q ≡ min (first + i - p) 4 → w ≡ wordOf (fourFrom code p) → w / 2 ^ (8 * q) ≡ wordOf (fourFrom os i)
-  unfolding wordOf
-  orthants-read {p} {q} {w} e f g = go q f
-    where
-      go : (q : ℕ) → q ≡ min (first + i - p) 4 → w / 2 ^ (8 * q) ≡ wordOf (fourFrom os i)
-      go zero f = omega (arith, g, there i p (omega arith), there (i + 1) (p + 1) (omega arith), there (i + 2) (p + 2) (omega arith), there (i + 3) (p + 3) (omega arith))
-      go (suc zero) f = omega (arith, g, small p, there i (p + 1) (omega arith), there (i + 1) (p + 2) (omega arith), there (i + 2) (p + 3) (omega arith), past (i + 3) (omega arith))
-      go (suc (suc zero)) f = omega (arith, g, small p, small (p + 1), there i (p + 2) (omega arith), there (i + 1) (p + 3) (omega arith), past (i + 2) (omega arith), past (i + 3) (omega arith))
-      go (suc (suc (suc zero))) f = omega (arith, g, small p, small (p + 1), small (p + 2), there i (p + 3) (omega arith), past (i + 1) (omega arith), past (i + 2) (omega arith), past (i + 3) (omega arith))
-      go (suc (suc (suc (suc zero)))) f = omega (arith, g, small p, small (p + 1), small (p + 2), small (p + 3), past i (omega arith), past (i + 1) (omega arith), past (i + 2) (omega arith), past (i + 3) (omega arith))
-      go (suc (suc (suc (suc (suc q))))) f = absurd (omega arith)
-
--- ---- the walk
-
--- a code long enough, and short enough, whose orthants have four bits
-pub record OrthantsReady (code : List ℕ) (d : ℕ) : Type 0 where
-  pub four : 4 ≤ length code
+-- a code long enough, and short enough, whose orthants have four bits, with the side of its box
+pub record OrthantsReady (code : List ℕ) (d side : ℕ) : Type 0 where
+  pub two : 2 ≤ d
+  pub few : d ≤ 8
   pub room : 2 + d ≤ length code
   pub most : length code ≤ 2 + d + halvings
-  pub few : d ≤ 8
   pub fit : (t : ℕ) → getD (drop (2 + d) code) t 0 < 16
+  pub is : side ≡ sideAfter (length code - 2 - d)
 
--- the first i orthants as the digits of a number, on axis a; there are zeros behind the last one
-unfoldable pub digits : List ℕ → ℕ → ℕ → ℕ
-digits os zero a = 0
-digits os (suc i) a = 2 * digits os i a + cond (high (getD os i 0) a) 1 0
+-- the first i of a row of orthants as the digits of a number, on axis a
+unfoldable pub digits : (ℕ → ℕ) → ℕ → ℕ → ℕ
+digits o zero a = 0
+digits o (suc i) a = 2 * digits o i a + cond (high (o i) a) 1 0
 
 bit-most : (t : Bool) → cond t 1 0 ≤ 1
 bit-most true = omega arith
 bit-most false = omega arith
 
-digits-small : (os : List ℕ) (i a : ℕ) → digits os i a < 2 ^ i
+digits-small : (o : ℕ → ℕ) (i a : ℕ) → digits o i a < 2 ^ i
 unfolding digits
-digits-small os zero a = omega arith
-digits-small os (suc i) a = omega (arith, digits-small os i a, bit-most (high (getD os i 0) a))
+digits-small o zero a = omega arith
+digits-small o (suc i) a = omega (arith, digits-small o i a, bit-most (high (o i) a))
 
--- one more: with what the others add it is the low side, as long as there are halvings
-low-next : (a i : ℕ) (os : List ℕ) → boxLow a i (drop i os) ≡ cond (high (getD os i 0) a) (sideAfter (suc i)) 0 + boxLow a (suc i) (drop (suc i) os)
-unfolding boxLow
-low-next a i os = go (decLt i (length os))
-  where
-    go : Dec (i < length os) → boxLow a i (drop i os) ≡ cond (high (getD os i 0) a) (sideAfter (suc i)) 0 + boxLow a (suc i) (drop (suc i) os)
-    go (yes h) = rw (drop-cons os i 0 h) refl
-    go (no h) = let l : length os ≤ i = omega arith in let u : length os ≤ suc i = omega arith in
-        rw (drop-of-length-le os l, drop-of-length-le os u, List·getD-eq-default os 0 l, high-none a) refl
-
-digits-low : (os : List ℕ) (a i : ℕ) → i ≤ halvings → digits os i a * sideAfter i + boxLow a i (drop i os) ≡ boxLow a 0 os
+-- the last n of them, where they are those of another row
+digits-last : (o p : ℕ → ℕ) (a m n : ℕ) → ((t : ℕ) → t < n → o (m + t) ≡ p t) → digits o (m + n) a % 2 ^ n ≡ digits p n a
 unfolding digits
-digits-low os a zero h = omega (arith, zero-mul (sideAfter 0))
-digits-low os a (suc i) h = one (high (getD os i 0) a) refl ∙ digits-low os a i (omega arith)
+digits-last o p a m zero e = omega arith
+digits-last o p a m (suc n) e = ap (λ (i : ℕ). digits o i a % 2 ^ suc n) (add-suc m n) ∙ rw (e n (omega arith)) (omega (arith, parts, digits-last o p a m n (λ t l. e t (omega arith)), bit-most (high (p n) a)))
   where
-    one : (t : Bool) → high (getD os i 0) a ≡ t → (2 * digits os i a + cond t 1 0) * sideAfter (suc i) + boxLow a (suc i) (drop (suc i) os) ≡ digits os i a * sideAfter i + boxLow a i (drop i os)
-    one t e = rw (low-next a i os, e, side-twice i h) (go t)
-      where
-        go : (t : Bool) → (2 * digits os i a + cond t 1 0) * sideAfter (suc i) + boxLow a (suc i) (drop (suc i) os)
-            ≡ digits os i a * (2 * sideAfter (suc i)) + (cond t (sideAfter (suc i)) 0 + boxLow a (suc i) (drop (suc i) os))
-        go true = omega (arith, add-mul (2 * digits os i a) 1 (sideAfter (suc i)), mul-assoc 2 (digits os i a) (sideAfter (suc i)), mul-left-comm (digits os i a) 2 (sideAfter (suc i)))
-        go false = omega (arith, add-mul (2 * digits os i a) 0 (sideAfter (suc i)), mul-assoc 2 (digits os i a) (sideAfter (suc i)), mul-left-comm (digits os i a) 2 (sideAfter (suc i)), zero-mul (sideAfter (suc i)))
+    x : ℕ
+    x = digits o (m + n) a
 
--- all of them, and zeros behind
-module _ (os : List ℕ) (few : length os ≤ halvings) (a : ℕ) where
-  digits-all : digits os halvings a ≡ boxLow a 0 os
-  unfolding boxLow
-  digits-all = omega (arith, rw (drop-of-length-le os few, side-last) at (digits-low os a halvings (omega arith)))
-    where
-      side-last : sideAfter halvings ≡ 1
-      side-last = unfold sideAfter cubeSide in div-self (pow-pos halvings)
+    double : x / 2 ^ n * 2 ^ suc n ≡ 2 * (x / 2 ^ n * 2 ^ n)
+    double = let t : 2 ^ suc n ≡ 2 * 2 ^ n = omega arith in ap (λ (k : ℕ). x / 2 ^ n * k) t ∙ mul-left-comm (x / 2 ^ n) 2 (2 ^ n)
 
-  digits-past : (m : ℕ) → digits os (m + halvings) a ≡ boxLow a 0 os * 2 ^ m
-  unfolding digits
-  digits-past zero = ap (λ (n : ℕ). digits os n a) (zero-add halvings) ∙ digits-all ∙ omega arith
-  digits-past (suc m) = ap (λ (n : ℕ). digits os n a) (suc-add m halvings)
-      ∙ rw (List·getD-eq-default os 0 past, high-none a, digits-past m) (omega (arith, two))
-    where
-      past : length os ≤ m + halvings
-      past = omega (arith, few)
+    parts : (2 * x + cond (high (p n) a) 1 0) % 2 ^ suc n ≡ 2 * (x % 2 ^ n) + cond (high (p n) a) 1 0
+    parts = ap (λ (k : ℕ). k % 2 ^ suc n) (omega (arith, div-add-mod' x (2 ^ n), double))
+        ∙ (let small : 2 * (x % 2 ^ n) + cond (high (p n) a) 1 0 < 2 ^ suc n = omega (arith, mod-lt x (pow-pos n), bit-most (high (p n) a)) in digits-mod (x / 2 ^ n) small)
 
-      two : boxLow a 0 os * 2 ^ suc m ≡ 2 * (boxLow a 0 os * 2 ^ m)
-      two = ap (λ (n : ℕ). boxLow a 0 os * n) (let t : 2 ^ suc m ≡ 2 * 2 ^ m = omega arith in t) ∙ mul-left-comm (boxLow a 0 os) 2 (2 ^ m)
+-- all orthants of a list: the number of the box on the axis, counted in sides of it
+one-more : (t : Bool) (p q x b : ℕ) → q ≡ 2 * p → 2 * (cond t p 0 + x) + b ≡ cond t q 0 + (2 * x + b)
+one-more true p q x b e = omega arith
+one-more false p q x b e = omega arith
 
--- ---- the walk: the first i orthants are read
-pub record LowsSoFar (os : List ℕ) (i lows : ℕ) : Type 0 where
-  pub fours : i % 4 ≡ 0
-  pub most : i < halvings + 4
-  pub is : lows ≡ inWord (digits os i)
+digits-front : (o : ℕ → ℕ) (a n : ℕ) → digits o (suc n) a ≡ cond (high (o 0) a) (2 ^ n) 0 + digits (λ t. o (suc t)) n a
+unfolding digits
+digits-front o a zero = omega arith
+digits-front o a (suc n) = rw (digits-front o a n) (one-more (high (o 0) a) (2 ^ n) (2 ^ suc n) (digits (λ t. o (suc t)) n a) (cond (high (o (suc n)) a) 1 0) (omega arith))
 
-pub lows-none : (os : List ℕ) → LowsSoFar os 0 0
+digits-box : (a : ℕ) (os : List ℕ) → digits (λ t. getD os t 0) (length os) a ≡ boxAt a os
+unfolding digits boxAt
+digits-box a [] = refl
+digits-box a (o ∷ os) = digits-front (λ t. getD (o ∷ os) t 0) a (length os) ∙ ap (λ (x : ℕ). cond (high o a) (2 ^ length os) 0 + x) (digits-box a os)
+
+digits-low : (a : ℕ) (os : List ℕ) → length os ≤ halvings → digits (λ t. getD os t 0) (length os) a * sideAfter (length os) ≡ boxLow a 0 os
+digits-low a os few = rw (digits-box a os, mul-comm (boxAt a os) (sideAfter (length os)), boxLow-boxAt a 0 os (omega arith)) (ap (λ (n : ℕ). sideAfter n * boxAt a os) (sym (zero-add (length os))))
+
+-- the mask of the lowest n digits of each coordinate
+unfoldable pub lowestOf : ℕ → ℕ
+lowestOf n = (2 ^ n - 1) * ones
+
+pub lowest-made : (n : ℕ) → n ≤ 15 → (1 * 2 ^ n % 2 ^ 64 - 1) * ones ≡ lowestOf n
+unfolding lowestOf
+lowest-made n h = ap (λ (x : ℕ). (x - 1) * ones) (shl-exact {a = 1} 1 n 64 (omega arith) (omega arith) ∙ one-mul (2 ^ n))
+
+pub lowest-some : (n : ℕ) → n ≤ 15 → 1 ≤ 1 * 2 ^ n % 2 ^ 64
+lowest-some n h = rw (shl-exact {a = 1} 1 n 64 (omega arith) (omega arith) ∙ one-mul (2 ^ n)) (pow-pos n)
+
+pub lowest-fits : (n : ℕ) → n ≤ 15 → (1 * 2 ^ n % 2 ^ 64 - 1) * ones < 2 ^ 64
+unfolding lowestOf
+lowest-fits n h = rw (lowest-made n h) (omega (arith, pow-mono {i = n} {j = 15} h))
+
+-- ---- the bytes read
+
+-- byte m of those that are read, four at a time from `all` bytes before the end on; a code that has fewer is read from its front
+unfoldable pub window : ℕ → List ℕ → ℕ → ℕ
+window all code m = getD code (length code - (all - (m - m % 4)) + m % 4) 0 % 16
+
+-- the walk: all but the last `back` are read
+pub record LowsSoFar (all : ℕ) (code : List ℕ) (back w : ℕ) : Type 0 where
+  pub most : all ≤ 16
+  pub fours : (all % 4 ≡ 0) × (back % 4 ≡ 0)
+  pub left : back ≤ all
+  pub is : w ≡ inWord (digits (window all code) (all - back))
+
+pub lows-none : (all : ℕ) (code : List ℕ) → all ≤ 16 → all % 4 ≡ 0 → LowsSoFar all code all 0
 unfolding inWord digits
-lows-none os = record { fours = refl; most = omega arith; is = refl }
+lows-none all code h e = record { most = h; fours = (e, e); left = omega arith; is = let none : all - all ≡ 0 = omega arith in rw none refl }
 
-module _ {os : List ℕ} {i lows : ℕ} (t : LowsSoFar os i lows) where
+module _ {all : ℕ} {code : List ℕ} {back w : ℕ} (t : LowsSoFar all code back w) where
   -- four more
-  module _ (h : i < halvings) (fit : (t : ℕ) → getD os t 0 < 16) {w : ℕ} (e : w ≡ wordOf (fourFrom os i)) where
-    four-digits : fourMore lows w ≡ inWord (digits os (i + 4))
-    unfolding fourMore spreadOf wordOf
-    four-digits = rw (o0, o1, o2, o3, t .is) (omega (arith, digit (i + 3) (i + 4) (omega arith), digit (i + 2) (i + 3) (omega arith), digit (i + 1) (i + 2) (omega arith), digit i (i + 1) (omega arith)))
+  module _ (h : 0 < back) (small : (i : ℕ) → getD code i 0 < 256) {v : ℕ} (e : v ≡ wordOf (fourFrom code (length code - back))) where
+    read : (r : ℕ) → r < 4 → window all code (all - back + r) ≡ getD code (length code - back + r) 0 % 16
+    unfolding window
+    read r l = rw (low, start) refl
       where
-        digit : (n m : ℕ) → m ≡ suc n → 2 * inWord (digits os n) + inWord (λ a. cond (high (getD os n 0) a) 1 0) ≡ inWord (digits os m)
-        digit n m f = rw f (unfold inWord digits in omega arith)
+        low : (all - back + r) % 4 ≡ r
+        low = omega (arith, t .fours, t .left)
 
-        o0 : w % 16 ≡ getD os i 0
-        o0 = omega (arith, e, fit i)
+        start : all - (all - back + r - r) ≡ back
+        start = omega (arith, t .left)
 
-        o1 : w / 2 ^ 8 % 16 ≡ getD os (i + 1) 0
-        o1 = omega (arith, e, fit i, fit (i + 1))
+    four-digits : fourMore w v ≡ inWord (digits (window all code) (all - (back - 4)))
+    unfolding fourMore spreadOf wordOf
+    four-digits = rw (o0, o1, o2, o3, t .is)
+        (omega (
+          arith,
+          digit (all - back) (all - back + 1) 0 (omega arith) (omega arith) (omega arith),
+          digit (all - back + 1) (all - back + 2) 1 refl (omega arith) (omega arith),
+          digit (all - back + 2) (all - back + 3) 2 refl (omega arith) (omega arith),
+          digit (all - back + 3) (all - (back - 4)) 3 refl (omega arith) (omega (arith, t .fours, t .left)),
+        ))
+      where
+        digit : (n m r : ℕ) → n ≡ all - back + r → r < 4 → m ≡ suc n → 2 * inWord (digits (window all code) n) + inWord (λ a. cond (high (getD code (length code - back + r) 0 % 16) a) 1 0) ≡ inWord (digits (window all code) m)
+        digit n m r q l f = rw (f, ← read r l, ← q) (unfold inWord digits in omega arith)
 
-        o2 : w / 2 ^ 16 % 16 ≡ getD os (i + 2) 0
-        o2 = omega (arith, e, fit i, fit (i + 1), fit (i + 2))
+        o0 : v % 16 ≡ getD code (length code - back + 0) 0 % 16
+        o0 = let z : length code - back + 0 ≡ length code - back = omega arith in rw z (omega (arith, e))
 
-        o3 : w / 2 ^ 24 % 16 ≡ getD os (i + 3) 0
-        o3 = omega (arith, e, fit i, fit (i + 1), fit (i + 2), fit (i + 3))
+        o1 : v / 2 ^ 8 % 16 ≡ getD code (length code - back + 1) 0 % 16
+        o1 = omega (arith, e, small (length code - back))
 
-    most-four : i + 4 ≤ 16
-    most-four = omega (arith, t .fours, halvings-few)
+        o2 : v / 2 ^ 16 % 16 ≡ getD code (length code - back + 2) 0 % 16
+        o2 = omega (arith, e, small (length code - back), small (length code - back + 1))
 
-    pub lows-fit : fourMore lows w < 2 ^ 64
-    lows-fit = rw four-digits (in-small (digits os (i + 4)) (λ a l u. lt-of-lt-of-le (digits-small os (i + 4) a) (pow-mono {i = i + 4} {j = 16} most-four)))
+        o3 : v / 2 ^ 24 % 16 ≡ getD code (length code - back + 3) 0 % 16
+        o3 = omega (arith, e, small (length code - back), small (length code - back + 1), small (length code - back + 2))
 
-    pub lows-next : {r : ℕ} → r ≡ fourMore lows w → LowsSoFar os (i + 4) r
-    lows-next f = record { fours = omega (arith, t .fours); most = omega arith; is = f ∙ four-digits }
+    pub lows-fit : fourMore w v < 2 ^ 64
+    lows-fit = rw four-digits (in-small (digits (window all code) (all - (back - 4)))
+        (λ a l u. lt-of-lt-of-le (digits-small (window all code) (all - (back - 4)) a) (pow-mono {i = all - (back - 4)} {j = 16} (omega (arith, t .most)))))
 
-  pub lows-shift : i - halvings < 64
-  lows-shift = omega (arith, t .most)
+    pub lows-next : {r : ℕ} → r ≡ fourMore w v → LowsSoFar all code (back - 4) r
+    lows-next f = record { most = t .most; fours = (t .fours .0, omega (arith, t .fours)); left = omega (arith, t .left); is = f ∙ four-digits }
 
-  pub lows-all : length os ≤ halvings → halvings ≤ i → lows / 2 ^ (i - halvings) ≡ inWord (λ a. boxLow a 0 os)
-  lows-all few h = ap (λ (x : ℕ). x / 2 ^ (i - halvings)) (t .is ∙ in-same (digits os i) (λ a. boxLow a 0 os * 2 ^ (i - halvings)) (λ a l u. ap (λ (n : ℕ). digits os n a) there ∙ digits-past os few a (i - halvings))
-      ∙ sym (in-times (λ a. boxLow a 0 os) (2 ^ (i - halvings)))) ∙ mul-div-left (inWord (λ a. boxLow a 0 os)) (pow-pos (i - halvings))
+pub lows-boxes : {code : List ℕ} {d side : ℕ} → OrthantsReady code d side → (2 ≤ length code) × (d ≤ length code - 2) × (length code - 2 - d ≤ 15)
+lows-boxes r = (omega (arith, r .room), omega (arith, r .room), omega (arith, r .most, halvings-few))
+
+-- all are read: what stands before the orthants is masked out
+module _ {all : ℕ} {code : List ℕ} {d side back w : ℕ} (r : OrthantsReady code d side) (room : halvings ≤ all) (t : LowsSoFar all code back w) (none : back ≤ 0) where
+  abbrev os : List ℕ
+  os = drop (2 + d) code
+
+  count : length (drop (2 + d) code) ≡ length code - 2 - d
+  count = length-drop (2 + d) code ∙ omega arith
+
+  few : length code - 2 - d ≤ halvings
+  few = omega (arith, r .most)
+
+  there : (m : ℕ) → m < length code - 2 - d → window all code (all - (length code - 2 - d) + m) ≡ getD (drop (2 + d) code) m 0
+  unfolding window
+  there m l = ap (λ (p : ℕ). getD code p 0 % 16) place ∙ ap (λ (x : ℕ). x % 16) (sym (getD-drop (2 + d) code m 0)) ∙ mod-eq-of-lt (r .fit m)
     where
-      there : i ≡ i - halvings + halvings
-      there = omega arith
+      place : length code - (all - (all - (length code - 2 - d) + m - (all - (length code - 2 - d) + m) % 4)) + (all - (length code - 2 - d) + m) % 4 ≡ 2 + d + m
+      place = omega (arith, few, room, r .two, r .room, l)
+
+  masked : bitAnd w (lowestOf (length code - 2 - d)) ≡ inWord (digits (λ t. getD (drop (2 + d) code) t 0) (length code - 2 - d))
+  unfolding lowestOf
+  masked = let whole : all - back ≡ all = omega arith in rw (t .is, whole) (in-low (digits (window all code) (all)) (length code - 2 - d) (omega (arith, few, room, t .most))
+      (λ a l u. lt-of-lt-of-le (digits-small (window all code) (all) a) (pow-mono {i = all} {j = 16} (omega (arith, t .most))))
+      ∙ in-same (λ a. digits (window all code) (all) a % 2 ^ (length code - 2 - d)) (digits (λ t. getD (drop (2 + d) code) t 0) (length code - 2 - d)) each)
+    where
+      each : (a : ℕ) → 1 ≤ a → a ≤ 4 → digits (window all code) (all) a % 2 ^ (length code - 2 - d) ≡ digits (λ t. getD (drop (2 + d) code) t 0) (length code - 2 - d) a
+      each a l u = ap (λ (i : ℕ). digits (window all code) i a % 2 ^ (length code - 2 - d)) (omega (arith, few, room))
+          ∙ digits-last (window all code) (λ t. getD (drop (2 + d) code) t 0) a (all - (length code - 2 - d)) (length code - 2 - d) there
+
+  product : bitAnd w (lowestOf (length code - 2 - d)) * side ≡ inWord (λ a. boxLow a 0 (drop (2 + d) code))
+  product = rw masked (in-times (digits (λ t. getD (drop (2 + d) code) t 0) (length code - 2 - d)) side
+      ∙ in-same (λ a. digits (λ t. getD (drop (2 + d) code) t 0) (length code - 2 - d) a * side) (λ a. boxLow a 0 (drop (2 + d) code))
+      (λ a l u. rw (r .is, ← count) (digits-low a (drop (2 + d) code) (rw count few))))
+
+  -- as the code has the mask
+  pub lows-all : {m : ℕ} → m ≡ lowestOf (length code - 2 - d) → bitAnd w m * side ≡ inWord (λ a. boxLow a 0 (drop (2 + d) code))
+  lows-all e = rw e product
+
+  pub lows-whole : {m : ℕ} → m ≡ lowestOf (length code - 2 - d) → bitAnd w m * side < 2 ^ 64
+  lows-whole e = rw (lows-all e) (in-small (λ a. boxLow a 0 (drop (2 + d) code)) (λ a l u. omega (arith, low-inside a 0 (drop (2 + d) code), side-first, cube-two-bytes)))

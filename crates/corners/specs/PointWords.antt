@@ -1,13 +1,15 @@
 -- A point as one word: its coordinates, 16 bits for each axis, axis 1 lowest. Such words are added axis by axis, written as bytes, and
 -- hold a point of up to four axes.
-use mathlib.Core.Path.{_≡_, refl, sym, ap, _∙_}
+use mathlib.Core.Path.{_≡_, refl, ap, _∙_}
 use mathlib.Core.Bool.{cond}
 use mathlib.Core.List.{List, [], _∷_}
 use Prim.Native.Nat.{ℕ, zero, suc, _+_, _-_, _*_, _/_, _%_, _^_, _≤_, _<_}
 use native.Mathlib.Omega.{arith}
-use native.Mathlib.Nat.{add-mul, mul-assoc, zero-mul, zero-mod}
+use native.Mathlib.Nat.{add-mul, mul-assoc, div-add-mod'}
+use lib.Bits.{bitAnd, and-shr, and-mod, and-mask}
 use lib.Dec.{eqb}
 use lib.ListN.{length, getD}
+use lib.Pow.{pow-pos, pow-mono}
 use Rattle.bisection.specs.Cells.{Point, coordinate, pointBytes}
 
 unfoldable pub pointWord : Point → ℕ
@@ -45,6 +47,36 @@ in-times f s = add-mul (f 1 + 65536 * f 2 + 4294967296 * f 3) (281474976710656 *
 pub in-small : (f : ℕ → ℕ) → ((a : ℕ) → 1 ≤ a → a ≤ 4 → f a < 65536) → inWord f < 2 ^ 64
 unfolding inWord
 in-small f h = omega (arith, h 1 (omega arith) (omega arith), h 2 (omega arith) (omega arith), h 3 (omega arith) (omega arith), h 4 (omega arith) (omega arith))
+
+-- and-ed axis by axis
+and-parts : (x X y Y : ℕ) → x < 65536 → y < 65536 → bitAnd (x + 65536 * X) (y + 65536 * Y) ≡ bitAnd x y + 65536 * bitAnd X Y
+and-parts x X y Y h l = omega (arith, low, high, div-add-mod' (bitAnd (x + 65536 * X) (y + 65536 * Y)) 65536)
+  where
+    low : bitAnd (x + 65536 * X) (y + 65536 * Y) % 65536 ≡ bitAnd x y
+    low = let p : (x + 65536 * X) % 65536 ≡ x = omega arith in let q : (y + 65536 * Y) % 65536 ≡ y = omega arith in and-mod (x + 65536 * X) (y + 65536 * Y) 16 ∙ rw (p, q) refl
+
+    high : bitAnd (x + 65536 * X) (y + 65536 * Y) / 65536 ≡ bitAnd X Y
+    high = let p : (x + 65536 * X) / 65536 ≡ X = omega arith in let q : (y + 65536 * Y) / 65536 ≡ Y = omega arith in and-shr (x + 65536 * X) (y + 65536 * Y) 16 ∙ rw (p, q) refl
+
+-- the lowest n digits of each coordinate
+pub in-low : (f : ℕ → ℕ) (n : ℕ) → n ≤ 16 → ((a : ℕ) → 1 ≤ a → a ≤ 4 → f a < 65536) → bitAnd (inWord f) ((2 ^ n - 1) * 281479271743489) ≡ inWord (λ a. f a % 2 ^ n)
+unfolding inWord
+in-low f n few h = rw (one, two) (and-parts (f 1) (f 2 + 65536 * (f 3 + 65536 * f 4)) m (m + 65536 * (m + 65536 * m)) (h 1 (omega arith) (omega arith)) small
+    ∙ ap (λ (x : ℕ). bitAnd (f 1) m + 65536 * x) (and-parts (f 2) (f 3 + 65536 * f 4) m (m + 65536 * m) (h 2 (omega arith) (omega arith)) small)
+    ∙ ap (λ (x : ℕ). bitAnd (f 1) m + 65536 * (bitAnd (f 2) m + 65536 * x)) (and-parts (f 3) (f 4) m m (h 3 (omega arith) (omega arith)) small)
+    ∙ omega (arith, and-mask (f 1) n, and-mask (f 2) n, and-mask (f 3) n, and-mask (f 4) n))
+  where
+    m : ℕ
+    m = 2 ^ n - 1
+
+    small : 2 ^ n - 1 < 65536
+    small = omega (arith, pow-mono {i = n} {j = 16} few, pow-pos n)
+
+    one : f 1 + 65536 * f 2 + 4294967296 * f 3 + 281474976710656 * f 4 ≡ f 1 + 65536 * (f 2 + 65536 * (f 3 + 65536 * f 4))
+    one = omega arith
+
+    two : (2 ^ n - 1) * 281479271743489 ≡ (2 ^ n - 1) + 65536 * ((2 ^ n - 1) + 65536 * ((2 ^ n - 1) + 65536 * (2 ^ n - 1)))
+    two = omega arith
 
 -- x shifted to an axis: the last one for 0, where x is 0
 pub on-axis : (a x : ℕ) → x < 65536 → a ≤ 4 → (a ≡ 0 → x ≡ 0) → x * 2 ^ (16 * ((a + 3) % 4)) % 2 ^ 64 ≡ inWord (onAxis a x)

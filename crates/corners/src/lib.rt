@@ -3,17 +3,18 @@
 // the code: how many orthants there are, and which axis an entry has, can't be foreseen.
 ghost use mathlib.Core.Path.{_≡_};
 ghost use mathlib.Core.Bool.{cond};
-ghost use Prim.Native.Nat.{_+_, _*_, _^_, _≤_, _<_};
+ghost use Prim.Native.Nat.{_+_, _-_, _*_, _^_, _≤_, _<_};
 ghost use lib.Dec.{leb};
+ghost use lib.IntN.{pos, _+ℤ_};
 ghost use lib.ListN.{length, drop};
 ghost use Rattle.common.specs.Putting.{Puts};
 ghost use Rattle.dimension.specs.Sizes.{boxSide};
-ghost use Rattle.bisection.specs.Codes.{axis, minus, dimensionOf, depthOf};
+ghost use Rattle.bisection.specs.Codes.{axis, minus, dimensionOf, depthOf, orthantsOf};
 ghost use Rattle.bisection.specs.Refusals.{done, codeRefusal};
-ghost use Rattle.bisection.specs.Theorems.Drawn.{boxLow};
 ghost use Rattle.entries.specs.Words.{wordOf, fourFrom};
 ghost use Rattle.corners.specs.PointWords.{pointWord, inWord, onAxis, coordinateBytes};
-ghost use Rattle.corners.specs.Lows.{spreadOf, fourMore, OrthantsReady};
+ghost use Rattle.corners.specs.Lows.{spreadOf, fourMore, lowestOf, lowsIn, OrthantsReady};
+ghost use Rattle.corners.specs.Steps.{signedStep, MovesTo};
 ghost use Rattle.corners.specs.Drawing.{VertexReady, VertexOf, vertexIn, CellReady, CellWritten};
 use dimension::Dim;
 use entries::check;
@@ -27,6 +28,27 @@ fn pick(b: bool, x: u64, y: u64) -> u64
         return x;
     }
     y
+}
+
+// A step by plus or minus so much.
+fn step_of(reach: u64, minus: bool) -> i32
+    requires { ⌜ reach < 65536 ⌝ }
+    ensures { λ r. ⌜ r ≡ signedStep reach minus ⌝ }
+{
+    let s = reach as i32;
+    if minus {
+        return -s;
+    }
+    s
+}
+
+// A coordinate moved by a signed step.
+fn moved(x: u64, step: i32) -> u64
+    requires { ⌜ (x < 65536) × MovesTo x step ⌝ }
+    ensures { λ r. ⌜ pos r ≡ pos x +ℤ step ⌝ }
+{
+    let y = (x as i32) + step;
+    y as u64
 }
 
 // The point with 1 on each axis that the orthant is high on, and 0 on the others. A table and no branch.
@@ -54,16 +76,13 @@ fn spread(orthant: u64) -> u64
     }
 }
 
-// Four orthants as a word, from number i on, 0 where there is none. They begin at place `first` of a code. The four bytes are read that
-// begin there, or the last four, and those before are shifted out.
-fn orthants_at(code: &[u8], first: usize, i: usize) -> u64
-    requires { ⌜ (4 ≤ length (now code)) × (first ≤ length (now code)) × (first + i < 2 ^ 64) ⌝ }
-    ensures { λ r. ⌜ r ≡ wordOf (fourFrom (drop first (now (code .entry))) i) ⌝ }
+// The four bytes of a code from so many before its end on, or its first four where it has no more.
+fn four_back(code: &[u8], back: usize) -> u64
+    requires { ⌜ (4 ≤ length (now code)) × (4 ≤ back) ⌝ }
+    ensures { λ r. ⌜ r ≡ wordOf (fourFrom (now (code .entry)) (length (now (code .entry)) - back)) ⌝ }
 {
-    let at = first + i;
-    let start = check::lower(at, code.len() - 4);
-    let w = words::word_at(code, start) as u64;
-    w >> (8 * check::lower(at - start, 4))
+    let n = code.len();
+    words::word_at(code, n - check::lower(back, n)) as u64
 }
 
 // A point twice, and 1 more on each axis that the orthant is high on: one binary digit more of each coordinate.
@@ -85,24 +104,37 @@ fn four_more(point: u64, orthants: u64) -> u64
     digit_more(three, (orthants >> 24) % 16)
 }
 
-// The low sides of the box, as a point: the orthants are their digits, the first one half of the cube's side. Four at a time, and always
-// as many as there can be: those that are not there are digits 0.
-fn low_sides(code: &[u8], d: usize) -> u64
-    requires { ⌜ OrthantsReady (now code) d ⌝ }
-    ensures { λ r. ⌜ r ≡ inWord (λ a. boxLow a 0 (drop (2 + d) (now (code .entry)))) ⌝ }
+// How many bytes before a code's end hold all its orthants: four at a time.
+const BACK: usize = (Dim::HALVINGS + 3) / 4 * 4;
+
+// 1 on each axis.
+const ONES: u64 = 0x0001_0001_0001_0001;
+
+// The mask of the lowest n binary digits of each coordinate.
+fn lowest(n: usize) -> u64
+    requires { ⌜ n ≤ 15 ⌝ }
+    ensures { λ r. ⌜ r ≡ lowestOf n ⌝ }
 {
-    let code = &*code; // lent on anew, it comes in registers
-    let mut lows: u64 = 0;
-    let mut i: usize = 0;
-    while i < Dim::HALVINGS {
-        lows = four_more(lows, orthants_at(code, 2 + d, i));
-        i += 4;
-    }
-    lows >> (i - Dim::HALVINGS)
+    ((1 << n) - 1) * ONES
 }
 
-// What vertex j has above the box's low side on the axis of the entry e at place t. Up to the entry's place that is nothing or the whole
-// side, by its sign; after it, what the caller says for a plus and for a minus.
+// The low sides of the box, as a point: the orthants are their digits, and `side` is what the last digit counts. As many bytes are read
+// as orthants can be, from the code's end back, and what is read before the first orthant is masked out.
+fn low_sides(code: &[u8], d: usize, side: u64) -> u64
+    requires { ⌜ OrthantsReady (now code) d side ⌝ }
+    ensures { λ r. ⌜ r ≡ lowsIn (drop (2 + d) (now (code .entry))) ⌝ }
+{
+    let mut digits: u64 = 0;
+    let mut back = BACK;
+    while 0 < back {
+        digits = four_more(digits, four_back(code, back));
+        back -= 4;
+    }
+    (digits & lowest(code.len() - 2 - d)) * side
+}
+
+// What vertex j has above the box's low side on the axis of the entry e at place t. Up to the entry's place that is what the near side
+// has, nothing for a plus and the whole side for a minus; after it, where a step from there leads: `far` for a plus, `back` for a minus.
 fn rise(side: u64, far: u64, back: u64, e: u8, t: usize, j: usize) -> u64
     ensures { λ r. ⌜ r ≡ cond (minus e) (cond (leb j t) side back) (cond (leb j t) 0 far) ⌝ }
 {
@@ -121,14 +153,15 @@ fn on_axis(x: u64, e: u8) -> u64
     x << (16 * ((common::size(entries::axis_of(e)) + 3) % 4))
 }
 
-// Vertex j of the box with these low sides and this side, the entries and the split place, as a point's word. After an entry's place the
-// vertices stand at the other side of the box, up to the split place, and then in the middle.
+// Vertex j of the box with these low sides and this side, the entries and the split place, as a point's word. A signed step goes to the
+// other side of the box up to the split place, and to the middle after it.
 fn vertex_at(lows: u64, side: u64, entries: u32, split: usize, j: usize) -> u64
     requires { ⌜ VertexReady lows side entries split j ⌝ }
     ensures { λ r. ⌜ VertexOf lows side entries split j r ⌝ }
 {
-    let far = pick(j <= split, side, side / 2);
-    let back = pick(j <= split, 0, side / 2);
+    let reach = pick(j <= split, side, side / 2);
+    let far = moved(0, step_of(reach, false));
+    let back = moved(side, step_of(reach, true));
     let mut point = lows;
     let mut t: usize = 0;
     while t < 4 {
@@ -147,13 +180,22 @@ fn side_of(code: &[u8], d: usize) -> u64
     (Dim::CUBE_SIDE as u64) >> (code.len() - 2 - d)
 }
 
-// Vertex j of a code that passes, as a point's word.
-pub fn vertex(code: &[u8], j: usize) -> u64
-    requires { ⌜ (codeRefusal (now code) ≡ done) × (j ≤ dimensionOf (now code)) ⌝ }
+// The low sides of the box of a code that passes, as a point's word.
+pub fn lows_of(code: &[u8]) -> u64
+    requires { ⌜ codeRefusal (now code) ≡ done ⌝ }
+    ensures { λ r. ⌜ r ≡ lowsIn (orthantsOf (now (code .entry))) ⌝ }
+{
+    let code = &*code; // lent on anew, it comes in registers
+    let d = check::axes_of(code);
+    low_sides(code, d, side_of(code, d))
+}
+
+// Vertex j of a code that passes, as a point's word, with the low sides of its box.
+pub fn vertex(code: &[u8], lows: u64, j: usize) -> u64
+    requires { ⌜ (codeRefusal (now code) ≡ done) × (lows ≡ lowsIn (orthantsOf (now code))) × (j ≤ dimensionOf (now code)) ⌝ }
     ensures { λ r. ⌜ r ≡ pointWord (vertexIn (now (code .entry)) j) ⌝ }
 {
     let d = check::axes_of(code);
-    let lows = low_sides(code, d);
     let entries = fours::words::word_in(code, d);
     vertex_at(lows, side_of(code, d), entries, check::split_of(code, d), j)
 }
@@ -182,7 +224,7 @@ pub fn write_cell(code: &[u8], points: &mut [u8])
     ensures { λ r. ⌜ CellWritten (now (code .entry)) (now (points .entry)) (now (points .exit)) ⌝ }
 {
     let d = check::axes_of(code);
-    let lows = low_sides(code, d);
+    let lows = lows_of(code);
     let side = side_of(code, d);
     let entries = fours::words::word_in(code, d);
     let split = check::split_of(code, d);

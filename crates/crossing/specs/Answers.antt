@@ -64,9 +64,13 @@ module _ (code : List ℕ) (p : codeRefusal code ≡ done) (i : ℕ) (il : i ≤
   pub table-size : isBlocked code i ≡ false → length (tableCode code i) ≡ length code
   table-size e = shares-size (beyond e .across .shares)
 
+  -- the place is one of four bits
+  pub table-place : isBlocked code i ≡ false → tablePlace code i ≤ 4
+  table-place e = omega (arith, beyond e .across .place, checked code p .range .few)
+
   -- where the code across stands at the front: it passes, and the place is one of its vertices'
   module _ (e : isBlocked code i ≡ false) (rest : List ℕ) {after : List ℕ} (q : after ≡ tableCode code i ++ rest) where
-    table-front : take (length code) after ≡ tableCode code i
+    pub table-front : take (length code) after ≡ tableCode code i
     table-front = ap (take (length code)) q ∙ take-at (tableCode code i) rest (length code) (table-size e)
 
     pub front-passes : codeRefusal (take (length code) after) ≡ done

@@ -1,67 +1,94 @@
--- A crossing's answer as one number: a refusal, or 16 more than the place of the new vertex. What it says, and one law for each way out.
+-- A crossing's answer as one number: a refusal, or the place of the new vertex and 16 more, or 32 more where the crossing leaves its box.
+-- What it says, and one law for each way out.
 use mathlib.Core.Path.{_≡_, refl, sym, ap, _∙_, subst}
 use mathlib.Core.Bool.{true, false}
 use mathlib.Core.List.{List, _++_}
-use Prim.Native.Nat.{ℕ, _+_, _-_, _≤_, _<_}
+use Prim.Native.Nat.{ℕ, _%_, _≤_, _<_}
 use native.Mathlib.Omega.{arith}
 use lib.ListN.{length, take, drop, length-append, length-drop}
 use lib.Seq.{length-take-le}
-use Rattle.bisection.specs.Codes.{dimensionOf}
+use Rattle.bisection.specs.Codes.{dimensionOf, orthantsOf}
 use Rattle.bisection.specs.Refusals.{done, refusedStep, refusedFace, refusedShort, codeRefusal}
 use Rattle.bisection.specs.Theorems.Neighbour.{isBlocked, tableCode, tablePlace}
 use Rattle.corners.specs.PointWords.{pointWord}
+use Rattle.corners.specs.Lows.{lowsIn}
 use Rattle.corners.specs.Drawing.{vertexIn, code-dimension, code-sized, vertex-small}
 use Rattle.crossing.specs.declared.Vertex.{Vertex}
 use Rattle.crossing.specs.declared.Crossed.{Crossed}
 use Rattle.crossing.specs.Outcome.{byAxes, Crosses}
 use Rattle.crossing.specs.Unpacking.{Unpacked}
-use Rattle.crossing.specs.Answers.{Bare, Whole, table-size, front-passes, front-place, cross-step, cross-face, cross-short, cross-done}
+use Rattle.crossing.specs.Answers.{Bare, Whole, table-size, table-front, front-passes, front-place, cross-step, cross-face, cross-short, cross-done}
 
 -- no refusal's number is so high
 abbrev pub landed : ℕ
 landed = 16
 
--- where the crossing is done, a code that passes stands at the front of the buffer, with a vertex at the place
-pub record Answerable (number : ℕ) (out : List ℕ) (n : ℕ) : Type 0 where
-  pub room : landed ≤ number → n ≤ length out
-  pub passes : landed ≤ number → codeRefusal (take n out) ≡ done
-  pub place : landed ≤ number → number - landed ≤ dimensionOf (take n out)
+abbrev pub beside : ℕ
+beside = 32
 
--- the answer that a number gives, with the buffer and the code's length
-pub record AnswerIs (number : ℕ) (out : List ℕ) (n : ℕ) (r : Crossed) : Type 0 where
+-- the code across passes; so does the first one, with the same orthants, where the number says that the crossing stays in its box
+pub record Boxed (number : ℕ) (code across : List ℕ) : Type 0 where
+  pub passes : codeRefusal across ≡ done
+  pub own : codeRefusal code ≡ done
+  pub same : number < beside → orthantsOf code ≡ orthantsOf across
+
+-- where the crossing is done, such a code stands at the front of the buffer, with a vertex at the place
+pub record Answerable (number : ℕ) (code out : List ℕ) : Type 0 where
+  pub room : landed ≤ number → length code ≤ length out
+  pub boxed : landed ≤ number → Boxed number code (take (length code) out)
+  pub place : landed ≤ number → number % landed ≤ dimensionOf (take (length code) out)
+
+-- the answer that a number gives, with the code's length and the buffer
+pub record AnswerIs (number n : ℕ) (out : List ℕ) (r : Crossed) : Type 0 where
   pub refused : number < landed → Bare number r
-  pub crossed : landed ≤ number → Whole n (number - landed) out r
+  pub crossed : landed ≤ number → Whole n (number % landed) out r
 
-pub answer-bare : {number n : ℕ} {out : List ℕ} {r : Crossed} → number < landed → Bare number r → AnswerIs number out n r
+pub answer-bare : {number n : ℕ} {out : List ℕ} {r : Crossed} → number < landed → Bare number r → AnswerIs number n out r
 answer-bare h b = record { refused = λ l. b; crossed = λ l. absurd (omega arith) }
 
-module _ {number n : ℕ} {out : List ℕ} (a : Answerable number out n) (h : landed ≤ number) where
-  pub answer-count : n ≡ length (take n out)
-  answer-count = sym (length-take-le n out (a .room h))
+pub boxed-same : {number lows : ℕ} {code across : List ℕ} → Boxed number code across → number < beside → lows ≡ lowsIn (orthantsOf code) → lows ≡ lowsIn (orthantsOf across)
+boxed-same b h e = e ∙ ap lowsIn (b .same h)
 
-  pub answer-vertex : {place j : ℕ} → place ≡ number - landed → j ≡ place → (codeRefusal (take n out) ≡ done) × (j ≤ dimensionOf (take n out))
-  answer-vertex e f = (a .passes h, rw (f ∙ e) (a .place h))
+module _ {number : ℕ} {code out : List ℕ} (a : Answerable number code out) (h : landed ≤ number) where
+  passes : codeRefusal (take (length code) out) ≡ done
+  passes = a .boxed h .passes
 
-  -- as the code has the place, as a byte and as a size, and the new vertex's word
-  pub answer-whole : {place j point : ℕ} {v : Vertex} → place ≡ number - landed → j ≡ place → point ≡ pointWord (vertexIn (take n out) j) → Unpacked point v
-      → AnswerIs number out n (record { refusal = done; place = place; length = n; vertex = v })
-  answer-whole {place} {j} {point} {v} e f w u = record {
-    refused = λ l. absurd (omega arith);
-    crossed = λ l. record { number = refl; place = e; size = refl; vertex = u .is (vertexIn (take n out) j) few (vertex-small (take n out) (a .passes h) j there) w ∙ ap (λ (m : ℕ). byAxes (vertexIn (take n out) m)) (f ∙ e) };
-  }
-    where
-      there : j ≤ dimensionOf (take n out)
-      there = rw (f ∙ e) (a .place h)
+  pub answer-count : length code ≡ length (take (length code) out)
+  answer-count = sym (length-take-le (length code) out (a .room h))
 
-      few : length (vertexIn (take n out) j) ≤ 4
-      few = omega (arith, code-sized (take n out) (a .passes h) .dims j there, code-dimension (take n out) (a .passes h) .few)
+  pub answer-boxed : Boxed number code (take (length code) out)
+  answer-boxed = a .boxed h
+
+  -- as the code has the low sides, and the place as a byte and as a size
+  module _ {lows place j : ℕ} (e : lows ≡ lowsIn (orthantsOf (take (length code) out))) (f : place ≡ number % landed) (g : j ≡ place) where
+    there : j ≤ dimensionOf (take (length code) out)
+    there = rw (g ∙ f) (a .place h)
+
+    pub answer-vertex : (codeRefusal (take (length code) out) ≡ done) × (lows ≡ lowsIn (orthantsOf (take (length code) out))) × (j ≤ dimensionOf (take (length code) out))
+    answer-vertex = (passes, e, there)
+
+    -- and the new vertex's word
+    pub answer-whole : {point : ℕ} {v : Vertex} → point ≡ pointWord (vertexIn (take (length code) out) j) → Unpacked point v
+        → AnswerIs number (length code) out (record { refusal = done; place = place; length = length code; vertex = v })
+    answer-whole w u = record {
+      refused = λ l. absurd (omega arith);
+      crossed = λ l. record {
+        number = refl;
+        place = f;
+        size = refl;
+        vertex = u .is (vertexIn (take (length code) out) j) few (vertex-small (take (length code) out) passes j there) w ∙ ap (λ (m : ℕ). byAxes (vertexIn (take (length code) out) m)) (g ∙ f);
+      };
+    }
+      where
+        few : length (vertexIn (take (length code) out) j) ≤ 4
+        few = omega (arith, code-sized (take (length code) out) passes .dims j there, code-dimension (take (length code) out) passes .few)
 
 -- the answer that the number gives is a crossing's, and there is one
 pub record Lands (code : List ℕ) (i : ℕ) (before : List ℕ) (number : ℕ) (after : List ℕ) : Type 0 where
-  pub says : (r : Crossed) → AnswerIs number after (length code) r → Crosses code i before r after
-  pub ready : Answerable number after (length code)
+  pub says : (r : Crossed) → AnswerIs number (length code) after r → Crosses code i before r after
+  pub ready : Answerable number code after
 
-pub lands : {code : List ℕ} {i number : ℕ} {before after : List ℕ} {r : Crossed} → Lands code i before number after → AnswerIs number after (length code) r → Crosses code i before r after
+pub lands : {code : List ℕ} {i number : ℕ} {before after : List ℕ} {r : Crossed} → Lands code i before number after → AnswerIs number (length code) after r → Crosses code i before r after
 lands {r = r} l a = l .says r a
 
 -- the ways out, in document 01's order
@@ -69,7 +96,7 @@ module _ (code before : List ℕ) (i : ℕ) where
   lands-bare : (number : ℕ) → number < landed → ((r : Crossed) → Bare number r → Crosses code i before r before) → Lands code i before number before
   lands-bare number h f = record {
     says = λ r a. f r (a .refused h);
-    ready = record { room = λ l. absurd (omega arith); passes = λ l. absurd (omega arith); place = λ l. absurd (omega arith) };
+    ready = record { room = λ l. absurd (omega arith); boxed = λ l. absurd (omega arith); place = λ l. absurd (omega arith) };
   }
 
   pub lands-step : {x d j : ℕ} → x ≡ codeRefusal code → x ≡ done → d ≡ dimensionOf code → j ≡ i → d < j → Lands code i before refusedStep before
@@ -82,16 +109,17 @@ module _ (code before : List ℕ) (i : ℕ) where
     pub lands-short : isBlocked code i ≡ false → length before < length code → Lands code i before refusedShort before
     lands-short e l = lands-bare refusedShort (omega arith) (λ r. cross-short code before i p il e l)
 
-    pub lands-done : isBlocked code i ≡ false → length code ≤ length before → {place : ℕ} → place ≡ tablePlace code i
-        → {after : List ℕ} → after ≡ tableCode code i ++ drop (length code) before → Lands code i before (landed + place) after
-    lands-done e l {place} g {after} q = record {
-      says = λ r a. cross-done code before i p il e q l (subst (λ (j : ℕ). Whole (length code) j after r) (there ∙ g) (a .crossed (omega arith)));
+    -- the number tells the place, and whether the orthants are the code's own
+    pub lands-done : isBlocked code i ≡ false → length code ≤ length before → {number : ℕ} → landed ≤ number → number % landed ≡ tablePlace code i → (number < beside → orthantsOf code ≡ orthantsOf (tableCode code i))
+        → {after : List ℕ} → after ≡ tableCode code i ++ drop (length code) before → Lands code i before number after
+    lands-done e l {number} h g same {after} q = record {
+      says = λ r a. cross-done code before i p il e q l (subst (λ (j : ℕ). Whole (length code) j after r) g (a .crossed h));
       ready = record {
-        room = λ h. rw q (omega (arith, length-append (tableCode code i) (drop (length code) before), length-drop (length code) before, table-size code p i il e));
-        passes = λ h. front-passes code p i il e (drop (length code) before) q;
-        place = λ h. rw (there ∙ g) (front-place code p i il e (drop (length code) before) q);
+        room = λ u. rw q (omega (arith, length-append (tableCode code i) (drop (length code) before), length-drop (length code) before, table-size code p i il e));
+        boxed = λ u. record { passes = front-passes code p i il e rest q; own = p; same = λ v. same v ∙ ap orthantsOf (sym (table-front code p i il e rest q)) };
+        place = λ u. rw g (front-place code p i il e rest q);
       };
     }
       where
-        there : landed + place - landed ≡ place
-        there = omega arith
+        rest : List ℕ
+        rest = drop (length code) before

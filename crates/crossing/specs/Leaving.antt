@@ -21,7 +21,8 @@ use Rattle.entries.specs.Walks.{entry-at}
 use Rattle.entries.specs.Passed.{code-few, Checked, checked}
 use Rattle.steps.specs.Copying.{whole-front}
 use Rattle.moves.specs.Carrying.{Ends, Flips, ends-out, ends-stopped, flips-carried}
-use Rattle.crossing.specs.Landing.{landed, Lands, lands-face, lands-short, lands-done}
+use Rattle.crossing.specs.Answers.{table-place}
+use Rattle.crossing.specs.Landing.{beside, Lands, lands-face, lands-short, lands-done}
 
 -- the row: what the table says, told by the entry e against which the box moves and the place whose sign changes
 pub record Leaving (code : List ℕ) (d at e i : ℕ) : Type 0 where
@@ -263,7 +264,8 @@ module _ {code : List ℕ} {d at e i : ℕ} (r : Leaving code d at e i) where
 
         pub leaving-done : {buf after : List ℕ} {v x : ℕ} → length code ≤ length before → v ≡ negated (getD code (2 + at) 0)
             → buf ≡ take (length code) code ++ drop (length code) before → x ≡ axis e → Flips (end - 1) (length code) x buf after
-            → Lands code i before (landed + i) (set after (2 + at) v)
+            → Lands code i before (beside + i) (set after (2 + at) v)
         unfolding rest
-        leaving-done {buf} {after} {v} l q b h f = lands-done code before i (r .passes) leaving-facet open-there l (sym (r .new))
+        leaving-done {buf} {after} {v} l q b h f = lands-done code before i (r .passes) leaving-facet open-there l (omega arith)
+            (omega (arith, r .new, table-place code (r .passes) i leaving-facet open-there)) (λ u. absurd (omega arith))
             (ap (λ (x : List ℕ). set x (2 + at) v) (carried-there b (subst (λ (a : ℕ). Flips (end - 1) (length code) a buf after) h f)) ∙ turned q ∙ table)

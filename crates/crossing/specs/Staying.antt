@@ -16,6 +16,7 @@ use Rattle.dimension.specs.Laws.{split-range}
 use Rattle.bisection.specs.Codes.{axis, minus, high, Name, bytes, dimensionOf, depthOf, entriesOf, orthantsOf, partsOf}
 use Rattle.bisection.specs.Refusals.{done, refusedShort, sameSign, ownMinus, codeRefusal}
 use Rattle.bisection.specs.Theorems.Table.{swap, left, right, trade, moveOf, newPlace, nextOwn, entriesBy, orthantsBy, blockedBy, blocked, acrossName}
+use Rattle.bisection.specs.Theorems.Checked.{parts-bytes}
 use Rattle.bisection.specs.Theorems.Crossing.Moves.{view}
 use Rattle.bisection.specs.Theorems.Crossing.Sound.{Allowed, allowed}
 use Rattle.bisection.specs.Theorems.Crossing.Rearranged.{entries-length}
@@ -27,7 +28,7 @@ use Rattle.fours.specs.declared.Four.{Four}
 use Rattle.fours.specs.Fours.{four, noEntries}
 use Rattle.fours.specs.Laws.{pasted}
 use Rattle.moves.specs.Rearranging.{ownNext, Rearranges, within, within-is, Movable}
-use Rattle.crossing.specs.Answers.{entries-append, code-pasted}
+use Rattle.crossing.specs.Answers.{table-place, entries-append, code-pasted}
 use Rattle.crossing.specs.Landing.{landed, Lands, lands-short, lands-done}
 
 pub record Staying (code : List ℕ) (d k i : ℕ) : Type 0 where
@@ -179,9 +180,13 @@ module _ {code : List ℕ} {d k i : ℕ} (r : Staying code d k i) where
         unfolding bytes acrossName dim m es partsOf
         across = rw (entries, row, ← r .split, within-orthants (dimensionOf code) k i (nextOwn k (partsOf code)) (partsOf code)) refl
 
+        same : orthantsOf code ≡ orthantsOf (tableCode code i)
+        unfolding partsOf dim
+        same = sym (ap (λ (m : Name). m .orthants) (parts-bytes (dimensionOf code) (depthOf code) (record { entries = take d rs; orthants = orthantsOf code }) (ap length entries ∙ entries-length es sized allows))) ∙ ap orthantsOf across
+
         pub staying-done : (out : List ℕ) {buf after : List ℕ} → length code ≤ length out → buf ≡ take (length code) code ++ drop (length code) out → after ≡ paste buf 2 rs d
             → Lands code i out (landed + place) after
-        staying-done out h b a = lands-done code out i (r .passes) staying-facet staying-free h there
+        staying-done out h b a = lands-done code out i (r .passes) staying-facet staying-free h (omega arith) (omega (arith, there, table-place code (r .passes) i staying-facet staying-free)) (λ l. same)
             (a ∙ ap (λ (l : List ℕ). paste l 2 rs d) (b ∙ whole-front code out) ∙ code-pasted code (r .passes) (r .axes) rs (drop (length code) out)
             ∙ ap (λ (l : List ℕ). l ++ drop (length code) out) across)
 

@@ -1,10 +1,9 @@
 -- A vertex by value, from the word of a point.
-use mathlib.Core.Path.{_≡_, refl}
-use mathlib.Core.List.{List, [], _∷_}
+use mathlib.Core.Path.{_≡_}
 use Prim.Native.Nat.{ℕ, _+_, _*_, _/_, _%_, _^_, _≤_, _<_}
 use native.Mathlib.Omega.{arith}
 use lib.ListN.{length, getD}
-use Rattle.bisection.specs.Cells.{Point, coordinate}
+use Rattle.bisection.specs.Cells.{Point}
 use Rattle.corners.specs.PointWords.{pointWord, inWord, in-point}
 use Rattle.crossing.specs.declared.Vertex.{Vertex}
 use Rattle.crossing.specs.Outcome.{byAxes}

@@ -3,11 +3,14 @@
 // last refusal is past. A crossing stays in the cell's box, where it rearranges the entries, or leaves it for the
 // box beside it, where the orthants change by carry.
 ghost use mathlib.Core.Path.{_≡_};
+ghost use lib.ListN.{length};
+ghost use Rattle.bisection.specs.Codes.{orthantsOf};
 ghost use Rattle.bisection.specs.Refusals.{done, codeRefusal};
+ghost use Rattle.corners.specs.Lows.{lowsIn};
 ghost use Rattle.crossing.specs.Outcome.{Crosses};
 ghost use Rattle.crossing.specs.Unpacking.{Unpacked};
 ghost use Rattle.crossing.specs.Answers.{Bare};
-ghost use Rattle.crossing.specs.Landing.{Answerable, AnswerIs, Lands};
+ghost use Rattle.crossing.specs.Landing.{Boxed, Answerable, AnswerIs, Lands};
 ghost use Rattle.crossing.specs.Leaving.{Leaving};
 ghost use Rattle.crossing.specs.Staying.{Staying};
 use bisection::DONE;
@@ -66,25 +69,42 @@ fn refused(refusal: u8) -> Crossed
     }
 }
 
-// A crossing gives one number: a refusal, or the place of the new vertex and so much more. A number comes back in a register, an answer
-// of several through memory.
+// A crossing gives one number: a refusal, or the place of the new vertex and so much more where it stays in its box, and twice as much
+// where it leaves it. A number comes back in a register, an answer of several through memory.
 const LANDED: u8 = 16;
+
+const BESIDE: u8 = 2 * LANDED;
+
+// The low sides of the box across. Where the crossing stays in its box they are read off the first code: what has just been written
+// would be waited for.
+fn lows_across(number: u8, code: &[u8], across: &[u8]) -> u64
+    requires { ⌜ Boxed number (now code) (now across) ⌝ }
+    ensures { λ r. ⌜ r ≡ lowsIn (orthantsOf (now (across .entry))) ⌝ }
+{
+    if number < BESIDE {
+        return corners::lows_of(code);
+    }
+    corners::lows_of(across)
+}
 
 // The answer that a crossing's number gives, with the code across at the buffer's front. The new vertex is read off that code, and no
 // other vertex is drawn.
-fn answer(number: u8, out: &[u8], length: usize) -> Crossed
-    requires { ⌜ Answerable number (now out) length ⌝ }
-    ensures { λ r. ⌜ AnswerIs number (now (out .entry)) length r ⌝ }
+fn answer(number: u8, code: &[u8], out: &[u8]) -> Crossed
+    requires { ⌜ Answerable number (now code) (now out) ⌝ }
+    ensures { λ r. ⌜ AnswerIs number (length (now (code .entry))) (now (out .entry)) r ⌝ }
 {
     if number < LANDED {
         return refused(number);
     }
-    let place = number - LANDED;
+    let place = number % LANDED;
+    let length = code.len();
+    let across = &out[..length];
+    let lows = lows_across(number, code, across);
     Crossed {
         refusal: DONE,
         place,
         length,
-        vertex: vertex_of(corners::vertex(&out[..length], common::size(place))),
+        vertex: vertex_of(corners::vertex(across, lows, common::size(place))),
     }
 }
 
@@ -128,7 +148,7 @@ fn cross_outside(code: &[u8], d: usize, at: usize, e: u8, facet: u8, out: &mut [
     buffers::copy_front(code, length, out);
     carries::carry(out, end - 1, length, entries::axis_of(e));
     out[2 + at] = turned;
-    LANDED + facet
+    BESIDE + facet
 }
 
 // Crosses a facet of a code that has been checked, and gives the crossing's number. Both functions below call it: for one caller alone
@@ -159,7 +179,7 @@ pub fn cross_checked(code: &[u8], facet: u8, out: &mut [u8]) -> Crossed
     requires { ⌜ codeRefusal (now code) ≡ done ⌝ }
     ensures { λ r. ⌜ Crosses (now (code .entry)) facet (now (out .entry)) r (now (out .exit)) ⌝ }
 {
-    answer(landing(code, facet, out), &out[..], code.len())
+    answer(landing(code, facet, out), code, &out[..])
 }
 
 // Across a facet lies a cell that has all its vertices, or a face of the cube.
@@ -170,5 +190,5 @@ pub fn cross(code: &[u8], facet: u8, out: &mut [u8]) -> Crossed
     if refusal != DONE {
         return refused(refusal);
     }
-    answer(landing(code, facet, out), &out[..], code.len())
+    answer(landing(code, facet, out), code, &out[..])
 }

@@ -1,7 +1,6 @@
 -- `four_more` meets its contract: digit by digit, and each step fits where the last one does.
 use native.Mathlib.Omega.{arith}
 use Rattle.corners.specs.Lows.{more-first, more-second, more-third, more-fourth, more-all}
-use borrow.Author.Needs.{needs}
 use Rattle.corners.proofs.four_more.Statement.{statement}
 use Rattle.corners.proofs.four_more.Tie as tie
 
@@ -13,6 +12,6 @@ four-more-spec =
     (λ c κs. let start : tie.Start = search in (omega arith, more-second _ _ (start .pre) (c .digit-more .ensures)))
     (λ c κs. let start : tie.Start = search in let one : tie.After-digit-more = search in (omega arith, more-third _ _ (start .pre) (one .digit-more .ensures) (c .digit-more2 .ensures)))
     (λ c κs. let start : tie.Start = search in let one : tie.After-digit-more = search in let two : tie.After-digit-more2 = search in
-      (omega arith, more-fourth _ _ (start .pre) (one .digit-more .ensures) (two .digit-more2 .ensures) (c .digit-more3 .ensures)))
+    (omega arith, more-fourth _ _ (start .pre) (one .digit-more .ensures) (two .digit-more2 .ensures) (c .digit-more3 .ensures)))
     (λ c. let start : tie.Start = search in let one : tie.After-digit-more = search in let two : tie.After-digit-more2 = search in let three : tie.After-digit-more3 = search in
-      more-all _ _ (start .pre) (one .digit-more .ensures) (two .digit-more2 .ensures) (three .digit-more3 .ensures) (c .digit-more4 .ensures)))
+    more-all _ _ (start .pre) (one .digit-more .ensures) (two .digit-more2 .ensures) (three .digit-more3 .ensures) (c .digit-more4 .ensures)))

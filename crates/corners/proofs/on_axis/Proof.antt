@@ -1,5 +1,4 @@
 -- `on_axis` meets its contract: x is shifted to the axis.
-use mathlib.Core.Path.{_∙_}
 use Rattle.corners.specs.PointWords.{on-axis-by}
 use borrow.Author.Needs.{needs}
 use Rattle.corners.proofs.on_axis.Statement.{statement}

@@ -1,5 +1,5 @@
 -- `rise` meets its contract.
-use Rattle.corners.specs.Drawing.{picks}
+use Rattle.corners.specs.Steps.{picks}
 use borrow.Author.Needs.{needs}
 use Rattle.corners.proofs.rise.Statement.{statement}
 use Rattle.corners.proofs.rise.Tie as tie

@@ -1,7 +1,7 @@
 -- `write_cell` meets its contract. The loop keeps: the first j vertices are written, and nothing else.
 use Prim.Native.Nat.{_+_, _-_}
 use native.Mathlib.Omega.{arith}
-use Rattle.corners.specs.Drawing.{Drawing, frame-split, frame-entries, frame-orthants, frame-made, draw-start, draw-few, draw-ready, draw-room, draw-next, draw-end}
+use Rattle.corners.specs.Drawing.{Drawing, frame-split, frame-entries, frame-made, draw-start, draw-few, draw-ready, draw-room, draw-next, draw-end}
 use borrow.Author.Needs.{needs}
 use Rattle.corners.proofs.write_cell.Statement.{statement}
 use Rattle.corners.proofs.write_cell.Tie as tie
@@ -16,11 +16,11 @@ loop-holds : tie.Need-loop-holds Inv-loop μ-loop
 loop-holds c =
     let start : tie.Start Inv-loop μ-loop = search in
     let axes : tie.After-axes-of Inv-loop μ-loop = search in
-    let lows : tie.After-low-sides Inv-loop μ-loop = search in
+    let lows : tie.After-lows-of Inv-loop μ-loop = search in
     let side : tie.After-side-of Inv-loop μ-loop = search in
     let entries : tie.After-word-in Inv-loop μ-loop = search in
     draw-start (start .pre) (axes .axes-of .ensures)
-    (frame-made _ (start .pre .passing) (axes .axes-of .ensures) (lows .low-sides .ensures) (side .side-of .ensures) (entries .word-in .ensures) (c .split-of .ensures))
+    (frame-made _ (start .pre .passing) (axes .axes-of .ensures) (lows .lows-of .ensures) (side .side-of .ensures) (entries .word-in .ensures) (c .split-of .ensures))
 
 loop-again : tie.Need-loop-again Inv-loop μ-loop
 loop-again c =
@@ -36,7 +36,7 @@ write-cell-spec =
     Inv-loop
     μ-loop
     (λ c κs. let start : tie.Start Inv-loop μ-loop = search in start .pre .passing)
-    (λ c κs. let start : tie.Start Inv-loop μ-loop = search in let axes : tie.After-axes-of Inv-loop μ-loop = search in frame-orthants _ (start .pre .passing) (axes .axes-of .ensures))
+    (λ c κs. let start : tie.Start Inv-loop μ-loop = search in start .pre .passing)
     (λ c κs. let start : tie.Start Inv-loop μ-loop = search in let axes : tie.After-axes-of Inv-loop μ-loop = search in (start .pre .passing, axes .axes-of .ensures))
     (λ c κs. let start : tie.Start Inv-loop μ-loop = search in let axes : tie.After-axes-of Inv-loop μ-loop = search in frame-entries _ (start .pre .passing) (axes .axes-of .ensures))
     (λ c κs. let start : tie.Start Inv-loop μ-loop = search in let axes : tie.After-axes-of Inv-loop μ-loop = search in frame-split _ (start .pre .passing) (axes .axes-of .ensures))
