@@ -2,4 +2,6 @@
 pub mod PointWords
 pub mod Lows
 pub mod Steps
+pub mod Adding
+pub mod Vertices
 pub mod Drawing

@@ -117,6 +117,29 @@ rise-picked s r m t j e f g = rw (g, e, f) (go m (leb j t))
     go false true = refl
     go false false = refl
 
+-- the closed form above a box's low side
+pub closed-above : (lo s : ℕ) (m : Bool) (i k j : ℕ) → closed lo s m i k j ≡ lo + closed 0 s m i k j
+unfolding closed
+closed-above lo s m i k j = go m (leb j i) (leb j k)
+  where
+    go : (m b c : Bool) → cond b (cond m (lo + s) lo) (cond c (cond (not m) (lo + s) lo) (lo + s / 2)) ≡ lo + cond b (cond m (0 + s) 0) (cond c (cond (not m) (0 + s) 0) (0 + s / 2))
+    go true true c = omega arith
+    go false true c = omega arith
+    go true false true = omega arith
+    go false false true = omega arith
+    go m false false = omega arith
+
+pub closed-most : (s : ℕ) (m : Bool) (i k j : ℕ) → closed 0 s m i k j ≤ s
+unfolding closed
+closed-most s m i k j = go m (leb j i) (leb j k)
+  where
+    go : (m b c : Bool) → cond b (cond m (0 + s) 0) (cond c (cond (not m) (0 + s) 0) (0 + s / 2)) ≤ s
+    go true true c = omega arith
+    go false true c = omega arith
+    go true false true = omega arith
+    go false false true = omega arith
+    go m false false = omega arith
+
 -- it is the closed form, where the middle is whole
 pub rise-closed : (s k : ℕ) (m : Bool) (t j : ℕ) {r : ℕ} → r ≡ cond (leb j k) s (s / 2) → (k < j → s % 2 ≡ 0) → riseBy s r m t j ≡ closed 0 s m t k j
 unfolding riseBy closed

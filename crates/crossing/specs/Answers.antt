@@ -21,7 +21,7 @@ use Rattle.bisection.specs.Theorems.Neighbour.{isBlocked, tableCode, tablePlace
 use Rattle.bisection.specs.Theorems.Entries.{turned-append, unturned-append}
 use Rattle.entries.specs.Passed.{Checked, checked}
 use Rattle.crossing.specs.declared.Crossed.{Crossed}
-use Rattle.corners.specs.Drawing.{vertexIn}
+use Rattle.corners.specs.Vertices.{vertexIn}
 use Rattle.crossing.specs.Outcome.{byAxes, nowhere, Refuses, Walled, Beyond, Meets, wall, short, crossed, Crosses}
 
 -- the cell across has a code of the same length

@@ -12,7 +12,7 @@ use Rattle.bisection.specs.Refusals.{done, refusedStep, refusedFace, refusedSho
 use Rattle.bisection.specs.Theorems.Neighbour.{isBlocked, tableCode, tablePlace}
 use Rattle.corners.specs.PointWords.{pointWord}
 use Rattle.corners.specs.Lows.{lowsIn}
-use Rattle.corners.specs.Drawing.{vertexIn, code-dimension, code-sized, vertex-small}
+use Rattle.corners.specs.Vertices.{vertexIn, code-dimension, code-sized, vertex-small}
 use Rattle.crossing.specs.declared.Vertex.{Vertex}
 use Rattle.crossing.specs.declared.Crossed.{Crossed}
 use Rattle.crossing.specs.Outcome.{byAxes, Crosses}

@@ -151,8 +151,7 @@ fn cross_outside(code: &[u8], d: usize, at: usize, e: u8, facet: u8, out: &mut [
     BESIDE + facet
 }
 
-// Crosses a facet of a code that has been checked, and gives the crossing's number. Both functions below call it: for one caller alone
-// the compiler would put it in line, and that caller's answer would go through memory.
+// Crosses a facet of a code that has been checked, and gives the crossing's number.
 fn landing(code: &[u8], facet: u8, out: &mut [u8]) -> u8
     requires { ⌜ codeRefusal (now code) ≡ done ⌝ }
     ensures { λ r. ⌜ Lands (now (code .entry)) facet (now (out .entry)) r (now (out .exit)) ⌝ }

@@ -1,5 +1,5 @@
 -- `lows_of` meets its contract: what the code's orthants give.
-use Rattle.corners.specs.Drawing.{frame-orthants, frame-lows}
+use Rattle.corners.specs.Vertices.{frame-orthants, frame-lows}
 use borrow.Author.Needs.{needs}
 use Rattle.corners.proofs.lows_of.Statement.{statement}
 use Rattle.corners.proofs.lows_of.Tie as tie

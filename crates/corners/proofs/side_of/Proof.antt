@@ -1,6 +1,6 @@
 -- `side_of` meets its contract: the cube's side, halved once for each orthant.
 use Rattle.dimension.specs.Sizes.{cubeSide, halvings}
-use Rattle.corners.specs.Drawing.{frame-boxes, frame-side}
+use Rattle.corners.specs.Vertices.{frame-boxes, frame-side}
 use borrow.Author.Needs.{needs}
 use Rattle.corners.proofs.side_of.Statement.{statement}
 use Rattle.corners.proofs.side_of.Tie as tie

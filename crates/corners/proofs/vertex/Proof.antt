@@ -1,5 +1,5 @@
 -- `vertex` meets its contract: the vertex that the code's numbers give.
-use Rattle.corners.specs.Drawing.{frame-split, frame-entries, frame-made}
+use Rattle.corners.specs.Vertices.{frame-split, frame-entries, frame-made}
 use Rattle.corners.proofs.vertex.Statement.{statement}
 use Rattle.corners.proofs.vertex.Tie as tie
 

@@ -4,7 +4,7 @@ use native.Mathlib.Omega.{arith}
 use mathlib.Core.Path.{refl}
 use mathlib.Core.Bool.{true, false}
 use Rattle.corners.specs.Steps.{reach-most, step-moves, step-lands}
-use Rattle.corners.specs.Drawing.{Rising, vertex-side, rise-start, rise-ready, rise-fits, rise-next, rise-end}
+use Rattle.corners.specs.Vertices.{Rising, vertex-side, rise-start, rise-ready, rise-fits, rise-next, rise-end}
 use borrow.Author.Needs.{needs}
 use Rattle.corners.proofs.vertex_at.Statement.{statement}
 use Rattle.corners.proofs.vertex_at.Tie as tie

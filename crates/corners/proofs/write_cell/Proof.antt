@@ -1,7 +1,8 @@
 -- `write_cell` meets its contract. The loop keeps: the first j vertices are written, and nothing else.
 use Prim.Native.Nat.{_+_, _-_}
 use native.Mathlib.Omega.{arith}
-use Rattle.corners.specs.Drawing.{Drawing, frame-split, frame-entries, frame-made, draw-start, draw-few, draw-ready, draw-room, draw-next, draw-end}
+use Rattle.corners.specs.Vertices.{frame-split, frame-entries, frame-made}
+use Rattle.corners.specs.Drawing.{Drawing, draw-start, draw-few, draw-ready, draw-room, draw-next, draw-end}
 use borrow.Author.Needs.{needs}
 use Rattle.corners.proofs.write_cell.Statement.{statement}
 use Rattle.corners.proofs.write_cell.Tie as tie
