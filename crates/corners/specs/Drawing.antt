@@ -33,7 +33,11 @@ pub record Coordinates (at d w : ℕ) (before : List ℕ) (to left n : ℕ) (now
   pub on : Putting at (coordinateBytes d w) before to (coordinateBytes (d - n) left) now
 
 pub put-start : {at d w : ℕ} {l : List ℕ} → (d ≤ 4) × (at + 2 * d ≤ length l) → Coordinates at d w l at w 0 l
-put-start {at} {d} {w} {l} r = record { few = r .0; some = omega arith; on = let all : d - 0 ≡ d = omega arith in rw all (putting-start at (coordinateBytes d w) l (omega (arith, r .1, bytes-length d w))) }
+put-start {at} {d} {w} {l} r = record {
+  few = r .0;
+  some = omega arith;
+  on = let all : d - 0 ≡ d = omega arith in rw all (putting-start at (coordinateBytes d w) l (omega (arith, r .1, bytes-length d w)));
+}
 
 module _ {at d w : ℕ} {before : List ℕ} {to left n : ℕ} {l : List ℕ} (c : Coordinates at d w before to left n l) where
   pub put-end : d ≤ n → Puts at (coordinateBytes d w) before to l
@@ -73,7 +77,8 @@ pub cell-long : (code : List ℕ) → codeRefusal code ≡ done → length (cell
 unfolding pointsLength
 cell-long code e = let z = code-sized code e in cell-size (dimensionOf code) (cellIn code) (λ j h. z .dims j (omega (arith, z .size))) ∙ ap (λ (n : ℕ). n * (2 * dimensionOf code)) (z .size)
 
-pub draw-start : {code l : List ℕ} {d lows side entries split : ℕ} → CellReady code (length l) → d ≡ dimensionOf code → Frame code lows side entries split → Drawing code d lows side entries split 0 0 l l
+pub draw-start : {code l : List ℕ} {d lows side entries split : ℕ} → CellReady code (length l) → d ≡ dimensionOf code → Frame code lows side entries split
+    → Drawing code d lows side entries split 0 0 l l
 draw-start {code} {l} r q o = record { frame = o; axes = q; few = omega arith; on = putting-start 0 (cellBytes (cellIn code)) l (omega (arith, cell-long code (r .passing), r .space)) }
 
 module _ {code : List ℕ} {d lows side entries split j at : ℕ} {before l : List ℕ} (w : Drawing code d lows side entries split j at before l) where

@@ -111,7 +111,8 @@ digits-small o (suc i) a = omega (arith, digits-small o i a, bit-most (high (o i
 digits-last : (o p : ℕ → ℕ) (a m n : ℕ) → ((t : ℕ) → t < n → o (m + t) ≡ p t) → digits o (m + n) a % 2 ^ n ≡ digits p n a
 unfolding digits
 digits-last o p a m zero e = omega arith
-digits-last o p a m (suc n) e = ap (λ (i : ℕ). digits o i a % 2 ^ suc n) (add-suc m n) ∙ rw (e n (omega arith)) (omega (arith, parts, digits-last o p a m n (λ t l. e t (omega arith)), bit-most (high (p n) a)))
+digits-last o p a m (suc n) e = ap (λ (i : ℕ). digits o i a % 2 ^ suc n) (add-suc m n)
+    ∙ rw (e n (omega arith)) (omega (arith, parts, digits-last o p a m n (λ t l. e t (omega arith)), bit-most (high (p n) a)))
   where
     x : ℕ
     x = digits o (m + n) a
@@ -197,7 +198,8 @@ module _ {all : ℕ} {code : List ℕ} {back w : ℕ} (t : LowsSoFar all code ba
           digit (all - back + 3) (all - (back - 4)) 3 refl (omega arith) (omega (arith, t .fours, t .left)),
         ))
       where
-        digit : (n m r : ℕ) → n ≡ all - back + r → r < 4 → m ≡ suc n → 2 * inWord (digits (window all code) n) + inWord (λ a. cond (high (getD code (length code - back + r) 0 % 16) a) 1 0) ≡ inWord (digits (window all code) m)
+        digit : (n m r : ℕ) → n ≡ all - back + r → r < 4 → m ≡ suc n
+            → 2 * inWord (digits (window all code) n) + inWord (λ a. cond (high (getD code (length code - back + r) 0 % 16) a) 1 0) ≡ inWord (digits (window all code) m)
         digit n m r q l f = rw (f, ← read r l, ← q) (unfold inWord digits in omega arith)
 
         o0 : v % 16 ≡ getD code (length code - back + 0) 0 % 16

@@ -156,7 +156,8 @@ rise-closed s k m t j e even = rw e (go (decLe j k))
     middle true f = omega arith
     middle false f = omega arith
 
-    go : Dec (j ≤ k) → cond (leb j t) (cond m s 0) (cond m (s - cond (leb j k) s (s / 2)) (cond (leb j k) s (s / 2))) ≡ cond (leb j t) (cond m (0 + s) 0) (cond (leb j k) (cond (not m) (0 + s) 0) (0 + s / 2))
+    go : Dec (j ≤ k) → cond (leb j t) (cond m s 0) (cond m (s - cond (leb j k) s (s / 2)) (cond (leb j k) s (s / 2)))
+        ≡ cond (leb j t) (cond m (0 + s) 0) (cond (leb j k) (cond (not m) (0 + s) 0) (0 + s / 2))
     go (yes l) = rw (le-leb j k l) (near (leb j t) _ _ (far m))
     go (no l) = let u : k < j = omega arith in rw (lt-leb j k u) (near (leb j t) _ _ (middle m (even u)))
 

@@ -233,6 +233,10 @@ module _ (code : List ℕ) (e : codeRefusal code ≡ done) {n : ℕ} (q : n ≡ 
 pub vertex-side : {lows side entries split j : ℕ} → VertexReady lows side entries split j → side < 65536
 vertex-side r = omega (arith, r .frame .side-is, side-small (r .code) (r .frame .passing))
 
+-- coordinate a, once the first t entries have added theirs to the box's low side
+abbrev pub risen : List ℕ → ℕ → ℕ → ℕ → ℕ
+risen code j t a = boxLow a 0 (orthantsOf code) + up (entriesOf code) (riseIn code j) t a
+
 -- ---- the walk over the entries: what the first t of them add, whatever code's they are
 pub record Rising (lows side entries split j reach far back t w : ℕ) : Type 0 where
   pub ready : VertexReady lows side entries split j
@@ -240,7 +244,7 @@ pub record Rising (lows side entries split j reach far back t w : ℕ) : Type 0 
   pub far-is : far ≡ reach
   pub back-is : back ≡ side - reach
   pub few : t ≤ 4
-  pub is : (code : List ℕ) → Frame code lows side entries split → j ≤ dimensionOf code → w ≡ inWord (λ a. boxLow a 0 (orthantsOf code) + up (entriesOf code) (riseIn code j) t a)
+  pub is : (code : List ℕ) → Frame code lows side entries split → j ≤ dimensionOf code → w ≡ inWord (risen code j t)
 
 pub rise-start : {lows side entries split j reach far back : ℕ} → VertexReady lows side entries split j → reach ≡ cond (leb j split) side (side / 2) → far ≡ reach → back ≡ side - reach
     → Rising lows side entries split j reach far back 0 lows
@@ -257,7 +261,7 @@ rise-start r f g h = record {
 module _ {lows side entries split j reach far back t w : ℕ} (on : Rising lows side entries split j reach far back t w) where
   pub rise-end : 4 ≤ t → VertexOf lows side entries split j w
   rise-end h = record {
-    is = λ code o l. on .is code o l ∙ ap (λ (n : ℕ). inWord (λ a. boxLow a 0 (orthantsOf code) + up (entriesOf code) (riseIn code j) n a)) (omega (arith, on .few)) ∙ vertex-is code (o .passing) j l;
+    is = λ code o l. on .is code o l ∙ ap (λ (n : ℕ). inWord (risen code j n)) (omega (arith, on .few)) ∙ vertex-is code (o .passing) j l;
   }
 
   -- entry t, as the code reads it, and what it adds
@@ -272,7 +276,8 @@ module _ {lows side entries split j reach far back t w : ℕ} (on : Rising lows 
     entry-is code o = b ∙ o .entries-are t
 
     above : (code : List ℕ) → Frame code lows side entries split → j ≤ dimensionOf code → x ≡ closed 0 side (minus e) t split j
-    above code o l = rise-picked side reach (minus e) t j (on .far-is) (on .back-is) q ∙ rise-closed side split (minus e) t j (on .reaches) (λ u. rw (o .side-is) (side-even code (o .passing) (omega (arith, u, l, o .split-is))))
+    above code o l = rise-picked side reach (minus e) t j (on .far-is) (on .back-is) q
+        ∙ rise-closed side split (minus e) t j (on .reaches) (λ u. rw (o .side-is) (side-even code (o .passing) (omega (arith, u, l, o .split-is))))
 
     adds : (code : List ℕ) → Frame code lows side entries split → j ≤ dimensionOf code → x ≡ riseIn code j t
     adds code o l = above code o l ∙ rw (o .side-is, o .split-is, entry-is code o) refl
@@ -289,21 +294,24 @@ module _ {lows side entries split j reach far back t w : ℕ} (on : Rising lows 
       where
         go : Dec (t < dimensionOf code) → (axis e ≤ 4) × (axis e ≡ 0 → x ≡ 0)
         go (yes l) = rw (entry-is code o) (omega (arith, signed .high t l, code-dimension code (o .passing) .few), λ z. absurd (omega (arith, z, signed .low t l)))
-        go (no l) = (rw (none, axis-none) (omega arith), λ z. above code o (on .ready .place) ∙ rw none (closed-near 0 side (minus 0) t split j (omega (arith, on .ready .place)) ∙ unfold minus in refl))
+        go (no l) = (
+          rw (none, axis-none) (omega arith),
+          λ z. above code o (on .ready .place) ∙ rw none (closed-near 0 side (minus 0) t split j (omega (arith, on .ready .place)) ∙ unfold minus in refl),
+        )
           where
             none : e ≡ 0
             none = entry-is code o ∙ List·getD-eq-default (entriesOf code) 0 {n = t} (omega (arith, signed .size))
 
     module _ {r : ℕ} (p : r ≡ inWord (onAxis (axis e) x)) where
-      next : (code : List ℕ) → Frame code lows side entries split → j ≤ dimensionOf code → w + r ≡ inWord (λ a. boxLow a 0 (orthantsOf code) + up (entriesOf code) (riseIn code j) (t + 1) a)
+      next : (code : List ℕ) → Frame code lows side entries split → j ≤ dimensionOf code → w + r ≡ inWord (risen code j (t + 1))
       unfolding up
       next code o l = rw (on .is code o l, p, entry-is code o, adds code o l, add-one t)
-          (in-add (λ a. boxLow a 0 (orthantsOf code) + up (entriesOf code) (riseIn code j) t a) (onAxis (axis (getD (entriesOf code) t 0)) (riseIn code j t))
-          ∙ in-same (λ a. boxLow a 0 (orthantsOf code) + up (entriesOf code) (riseIn code j) t a + onAxis (axis (getD (entriesOf code) t 0)) (riseIn code j t) a)
+          (in-add (risen code j t) (onAxis (axis (getD (entriesOf code) t 0)) (riseIn code j t))
+          ∙ in-same (λ a. risen code j t a + onAxis (axis (getD (entriesOf code) t 0)) (riseIn code j t) a)
           (λ a. boxLow a 0 (orthantsOf code) + (up (entriesOf code) (riseIn code j) t a + onAxis (axis (getD (entriesOf code) t 0)) (riseIn code j t) a)) (λ a l u. omega arith))
 
       pub rise-fits : w + r < 2 ^ 64
-      rise-fits = rw (next code o (on .ready .place)) (in-small (λ a. boxLow a 0 (orthantsOf code) + up (entriesOf code) (riseIn code j) (t + 1) a) (λ a l u. part-small code (o .passing) j (on .ready .place) (t + 1) a l))
+      rise-fits = rw (next code o (on .ready .place)) (in-small (risen code j (t + 1)) (λ a l u. part-small code (o .passing) j (on .ready .place) (t + 1) a l))
 
       pub rise-next : Rising lows side entries split j reach far back (t + 1) (w + r)
       rise-next = record { ready = on .ready; reaches = on .reaches; far-is = on .far-is; back-is = on .back-is; few = omega arith; is = next }

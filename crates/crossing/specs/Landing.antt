@@ -110,7 +110,8 @@ module _ (code before : List ℕ) (i : ℕ) where
     lands-short e l = lands-bare refusedShort (omega arith) (λ r. cross-short code before i p il e l)
 
     -- the number tells the place, and whether the orthants are the code's own
-    pub lands-done : isBlocked code i ≡ false → length code ≤ length before → {number : ℕ} → landed ≤ number → number % landed ≡ tablePlace code i → (number < beside → orthantsOf code ≡ orthantsOf (tableCode code i))
+    pub lands-done : isBlocked code i ≡ false → length code ≤ length before → {number : ℕ} → landed ≤ number → number % landed ≡ tablePlace code i
+        → (number < beside → orthantsOf code ≡ orthantsOf (tableCode code i))
         → {after : List ℕ} → after ≡ tableCode code i ++ drop (length code) before → Lands code i before number after
     lands-done e l {number} h g same {after} q = record {
       says = λ r a. cross-done code before i p il e q l (subst (λ (j : ℕ). Whole (length code) j after r) g (a .crossed h));

@@ -182,11 +182,13 @@ module _ {code : List ℕ} {d k i : ℕ} (r : Staying code d k i) where
 
         same : orthantsOf code ≡ orthantsOf (tableCode code i)
         unfolding partsOf dim
-        same = sym (ap (λ (m : Name). m .orthants) (parts-bytes (dimensionOf code) (depthOf code) (record { entries = take d rs; orthants = orthantsOf code }) (ap length entries ∙ entries-length es sized allows))) ∙ ap orthantsOf across
+        same = sym (ap (λ (m : Name). m .orthants) (parts-bytes (dimensionOf code) (depthOf code) (record { entries = take d rs; orthants = orthantsOf code }) (ap length entries ∙ entries-length es sized allows)))
+            ∙ ap orthantsOf across
 
         pub staying-done : (out : List ℕ) {buf after : List ℕ} → length code ≤ length out → buf ≡ take (length code) code ++ drop (length code) out → after ≡ paste buf 2 rs d
             → Lands code i out (landed + place) after
-        staying-done out h b a = lands-done code out i (r .passes) staying-facet staying-free h (omega arith) (omega (arith, there, table-place code (r .passes) i staying-facet staying-free)) (λ l. same)
+        staying-done out h b a = lands-done code out i (r .passes) staying-facet staying-free h (omega arith)
+            (omega (arith, there, table-place code (r .passes) i staying-facet staying-free)) (λ l. same)
             (a ∙ ap (λ (l : List ℕ). paste l 2 rs d) (b ∙ whole-front code out) ∙ code-pasted code (r .passes) (r .axes) rs (drop (length code) out)
             ∙ ap (λ (l : List ℕ). l ++ drop (length code) out) across)
 

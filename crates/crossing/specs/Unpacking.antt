@@ -12,7 +12,8 @@ use Rattle.crossing.specs.Outcome.{byAxes}
 pub record Unpacked (point : ℕ) (r : Vertex) : Type 0 where
   pub is : (v : Point) → length v ≤ 4 → ((n : ℕ) → getD v n 0 < 65536) → point ≡ pointWord v → r ≡ byAxes v
 
-pub unpacked : {point a b c e : ℕ} → a ≡ point % 65536 → b ≡ point / 2 ^ 16 % 65536 → c ≡ point / 2 ^ 32 % 65536 → e ≡ point / 2 ^ 48 → Unpacked point (record { first = a; second = b; third = c; fourth = e })
+pub unpacked : {point a b c e : ℕ} → a ≡ point % 65536 → b ≡ point / 2 ^ 16 % 65536 → c ≡ point / 2 ^ 32 % 65536 → e ≡ point / 2 ^ 48
+    → Unpacked point (record { first = a; second = b; third = c; fourth = e })
 unfolding byAxes inWord
 unpacked {point} {a} {b} {c} {e} p q r s = record { is = λ v few small w. same v small (omega (arith, w, in-point v few)) }
   where

@@ -20,7 +20,8 @@ use Rattle.compatible.specs.Compatible.{CompatibleIs}
 pub record NoIdleProgram : Type 0 where
   -- one that refuses everything, with whatever number: a path (demand 2), a crossing (demand 3)
   pub refuses-paths : (number : ℕ) → number ≢ done → ((root path before : List ℕ) → PathToCode root path before (record { refusal = number; length = 0 }) before) → ⊥
-  pub refuses-crossings : (number : ℕ) → number ≢ done → ((code : List ℕ) (i : ℕ) (before : List ℕ) → Crosses code i before (record { refusal = number; place = 0; length = 0; vertex = nowhere }) before) → ⊥
+  pub refuses-crossings : (number : ℕ) → number ≢ done
+      → ((code : List ℕ) (i : ℕ) (before : List ℕ) → Crosses code i before (record { refusal = number; place = 0; length = 0; vertex = nowhere }) before) → ⊥
   -- one that returns a fixed root
   pub fixed-root : (root : List ℕ) (r : List ℕ → PathWritten) (path : List ℕ → List ℕ) → ((code roots paths : List ℕ) → CodeToPath code roots paths (r code) (root ++ drop (length root) roots) (path code)) → ⊥
   -- a crossing that hands back its own cell

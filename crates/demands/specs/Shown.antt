@@ -122,7 +122,10 @@ unfolding Holds
 cross-row {code} {i} {answer} {place} {new} a before room = record {
   own = λ n. absurd (n (a .passes));
   above = λ e l. absurd (omega (arith, il, l));
-  meets = λ e l. crossed answer place (record { vs = cellOf (rootOf code) (pathOf code); cell = c; free = λ w. absurd (wrong (sym (face-is-blocked c i il w) ∙ a .free)); across = across }) room (record { number = refl; place = refl; size = refl; vertex = ap byAxes (sym (a .lands) ∙ ap (λ (ws : Cell). vertex ws place) there); written = refl });
+  meets = λ e l. crossed answer place
+      (record { vs = cellOf (rootOf code) (pathOf code); cell = c; free = λ w. absurd (wrong (sym (face-is-blocked c i il w) ∙ a .free)); across = across })
+      room
+      (record { number = refl; place = refl; size = refl; vertex = ap byAxes (sym (a .lands) ∙ ap (λ (ws : Cell). vertex ws place) there); written = refl });
 }
   where
     c : IsCell code (cellOf (rootOf code) (pathOf code))
@@ -145,7 +148,9 @@ unfolding Holds
 wall-row {code} {i} a before = record {
   own = λ n. absurd (n (a .passes));
   above = λ e l. absurd (omega (arith, il, l));
-  meets = λ e l. wall (record { vs = cellOf (rootOf code) (pathOf code); cell = c; face = blocked-is-face c i il (a .blocked); alone = blocked-alone c i il (a .blocked) }) (record { number = refl; place = refl; size = refl; vertex = refl; kept = refl });
+  meets = λ e l. wall
+      (record { vs = cellOf (rootOf code) (pathOf code); cell = c; face = blocked-is-face c i il (a .blocked); alone = blocked-alone c i il (a .blocked) })
+      (record { number = refl; place = refl; size = refl; vertex = refl; kept = refl });
 }
   where
     c : IsCell code (cellOf (rootOf code) (pathOf code))

@@ -47,7 +47,9 @@ low-sides-spec =
     Inv-loop
     μ-loop
     (λ c. lows-none _ _ (omega arith) refl)
-    (λ c κs. let start : tie.Start Inv-loop μ-loop = search in let turn : tie.In-loop Inv-loop μ-loop = search in (omega (arith, start .pre .room, start .pre .two), omega (arith, turn .before .loop .inv .fours, turn .loop-test .taken)))
+    (λ c κs. let start : tie.Start Inv-loop μ-loop = search in
+    let turn : tie.In-loop Inv-loop μ-loop = search in
+    (omega (arith, start .pre .room, start .pre .two), omega (arith, turn .before .loop .inv .fours, turn .loop-test .taken)))
     four-more-requires
     (λ c. let turn : tie.In-loop Inv-loop μ-loop = search in omega (arith, turn .before .loop .inv .fours, turn .loop-test .taken))
     (λ c. let turn : tie.In-loop Inv-loop μ-loop = search in omega (arith, turn .loop-test .taken))

@@ -39,7 +39,11 @@ others r = r .place ∷ r .length ∷ r .vertex .first ∷ r .vertex .second ∷
 
 refuses-clean : {number : ℕ} {before : List ℕ} {r : Crossed} {after : List ℕ} → Refuses number before r after → number ≤ 15 → Clean (r .refusal) (others r) (before ∷ []) (after ∷ [])
 unfolding Zero
-refuses-clean w l = record { in-table = omega (arith, w .number); zero = (w .place, (w .size, (λ i. w .vertex i .first, (λ i. w .vertex i .second, (λ i. w .vertex i .third, (λ i. w .vertex i .fourth, tt)))))); kept = ap (λ (b : List ℕ). b ∷ []) (w .kept) }
+refuses-clean w l = record {
+  in-table = omega (arith, w .number);
+  zero = (w .place, (w .size, (λ i. w .vertex i .first, (λ i. w .vertex i .second, (λ i. w .vertex i .third, (λ i. w .vertex i .fourth, tt))))));
+  kept = ap (λ (b : List ℕ). b ∷ []) (w .kept);
+}
 
 to-path-clean : (code roots paths : List ℕ) (r : PathWritten) (roots' paths' : List ℕ) → CodeToPath code roots paths r roots' paths' → r .refusal ≢ done → Clean (r .refusal) (r .axes ∷ r .depth ∷ []) (roots ∷ paths ∷ []) (roots' ∷ paths' ∷ [])
 unfolding Zero
