@@ -16,7 +16,7 @@ use Rattle.bisection.specs.Codes.{high}
 use Rattle.bisection.specs.Theorems.Drawn.{boxLow}
 use Rattle.bisection.specs.Theorems.Crossing.Boxes.{boxAt, boxLow-boxAt}
 use Rattle.entries.specs.Words.{wordOf, fourFrom}
-use Rattle.corners.specs.PointWords.{inWord, in-same, in-times, in-small, in-low}
+use Rattle.corners.specs.PointWords.{inWord, ones, in-same, in-times, in-small, in-low}
 
 -- the low sides of the box that the orthants give, as one point
 abbrev pub lowsIn : List ℕ → ℕ
@@ -29,10 +29,6 @@ spreadOf o = inWord (λ a. cond (high o a) 1 0)
 -- a point twice with four digits more, those of four orthants in a word
 unfoldable pub fourMore : ℕ → ℕ → ℕ
 fourMore p w = 2 * (2 * (2 * (2 * p + spreadOf (w % 16)) + spreadOf (w / 2 ^ 8 % 16)) + spreadOf (w / 2 ^ 16 % 16)) + spreadOf (w / 2 ^ 24 % 16)
-
--- 1 on every axis
-abbrev pub ones : ℕ
-ones = 281479271743489
 
 -- an orthant of four bits that is none of the others is high on every axis
 abbrev NoneOf : ℕ → ℕ → Type 0

@@ -20,6 +20,10 @@ pointWord (x ∷ v) = x + 65536 * pointWord v
 unfoldable pub inWord : (ℕ → ℕ) → ℕ
 inWord f = f 1 + 65536 * f 2 + 4294967296 * f 3 + 281474976710656 * f 4
 
+-- 1 on each axis
+abbrev pub ones : ℕ
+ones = 281479271743489
+
 -- x on axis a, and 0 on the others
 unfoldable pub onAxis : ℕ → ℕ → ℕ → ℕ
 onAxis a x b = cond (eqb b a) x 0
@@ -59,7 +63,7 @@ and-parts x X y Y h l = omega (arith, low, high, div-add-mod' (bitAnd (x + 65536
     high = let p : (x + 65536 * X) / 65536 ≡ X = omega arith in let q : (y + 65536 * Y) / 65536 ≡ Y = omega arith in and-shr (x + 65536 * X) (y + 65536 * Y) 16 ∙ rw (p, q) refl
 
 -- the lowest n digits of each coordinate
-pub in-low : (f : ℕ → ℕ) (n : ℕ) → n ≤ 16 → ((a : ℕ) → 1 ≤ a → a ≤ 4 → f a < 65536) → bitAnd (inWord f) ((2 ^ n - 1) * 281479271743489) ≡ inWord (λ a. f a % 2 ^ n)
+pub in-low : (f : ℕ → ℕ) (n : ℕ) → n ≤ 16 → ((a : ℕ) → 1 ≤ a → a ≤ 4 → f a < 65536) → bitAnd (inWord f) ((2 ^ n - 1) * ones) ≡ inWord (λ a. f a % 2 ^ n)
 unfolding inWord
 in-low f n few h = rw (one, two) (and-parts (f 1) (f 2 + 65536 * (f 3 + 65536 * f 4)) m (m + 65536 * (m + 65536 * m)) (h 1 (omega arith) (omega arith)) small
     ∙ ap (λ (x : ℕ). bitAnd (f 1) m + 65536 * x) (and-parts (f 2) (f 3 + 65536 * f 4) m (m + 65536 * m) (h 2 (omega arith) (omega arith)) small)
@@ -75,7 +79,7 @@ in-low f n few h = rw (one, two) (and-parts (f 1) (f 2 + 65536 * (f 3 + 65536 * 
     one : f 1 + 65536 * f 2 + 4294967296 * f 3 + 281474976710656 * f 4 ≡ f 1 + 65536 * (f 2 + 65536 * (f 3 + 65536 * f 4))
     one = omega arith
 
-    two : (2 ^ n - 1) * 281479271743489 ≡ (2 ^ n - 1) + 65536 * ((2 ^ n - 1) + 65536 * ((2 ^ n - 1) + 65536 * (2 ^ n - 1)))
+    two : (2 ^ n - 1) * ones ≡ (2 ^ n - 1) + 65536 * ((2 ^ n - 1) + 65536 * ((2 ^ n - 1) + 65536 * (2 ^ n - 1)))
     two = omega arith
 
 -- x shifted to an axis: the last one for 0, where x is 0

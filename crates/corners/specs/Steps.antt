@@ -75,7 +75,7 @@ module _ (x : ℕ) (step : ℤ) (h : x < 2 ^ 16) (f : SFits w32 step) (m : Moves
   pub moved-value : pos (natAbs (toZ w32 (ofZ w32 (toZ w32 x +ℤ toZ w32 (ofZ w32 step))))) ≡ pos x +ℤ step
   moved-value = rw back (sym (m .is))
 
--- from the near side one step leads to the far side, and half a step to the middle
+-- a whole number less a smaller one
 pos-sub : (x s : ℕ) → s ≤ x → pos x -ℤ pos s ≡ pos (x - s)
 pos-sub x zero h = ap pos (omega arith)
 pos-sub x (suc s) h = simp le-ltb
