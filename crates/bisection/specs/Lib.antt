@@ -1,5 +1,5 @@
--- Document 01 as definitions, to be read from the top. A reader must believe Cells, Roots, Codes, Refusals, Facets and Weights; the rest
--- is checked.
+-- Document 01 as definitions, to be read from the top. A reader must believe Cells, Roots, Codes, Refusals, Facets, Weights and
+-- Slopes; the rest is checked.
 -- The cube and the bisection: points, cells, children, the cell of a root and a path.
 pub mod Cells
 -- The roots, and all of them in dictionary order.
@@ -12,6 +12,8 @@ pub mod Refusals
 pub mod Facets
 -- A point in a closed cell, and its weights; points inside points.
 pub mod Weights
+-- The slope of the only linear function through numbers at a cell's vertices.
+pub mod Slopes
 -- The definitions computed on small cases: the document's quoted orthants, and how many codes pass.
 pub mod Computed
 -- What is proved of the definitions, each statement with its proof's place.

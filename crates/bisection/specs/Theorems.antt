@@ -37,5 +37,7 @@ pub mod Crossing
 pub mod Neighbour
 -- Weights of points in cells and facets.
 pub mod Weights
+-- The slope of the only linear function through numbers at a cell's vertices.
+pub mod Slopes
 -- Crossing and splitting agree: a child's facets, inside the cell's and between the two children.
 pub mod Splitting

@@ -27,6 +27,15 @@ top i k = i + (k - i)
 pub offset : ℕ → ℕ → ℕ → ℕ → ℕ
 offset s i k j = cond (leb j i) 0 (cond (leb j k) s (s / 2))
 
+module _ (s i k j : ℕ) where
+  pub offset-none : j ≤ i → offset s i k j ≡ 0
+  unfolding offset
+  offset-none h = simp le-leb
+
+  pub offset-some : i < j → offset s i k j ≡ cond (leb j k) s (s / 2)
+  unfolding offset
+  offset-some h = simp lt-leb
+
 -- nothing up to place i, c past it
 after : ℕ → ℕ → ℕ → ℕ
 after c i j = cond (leb j i) 0 c
@@ -87,7 +96,7 @@ module _ {d D : ℕ} {m : Name} {vs : Cell} (d0 : 0 < d) (deep : D ≤ greatestD
   abbrev a : ℕ
   a = axis (entry m i)
 
-  away : (j : ℕ) → j < suc d → Moves (minus (entry m i)) (offset (boxSide d D) i (splitPlace d D) j) (along vs a 0) (along vs a j)
+  pub away : (j : ℕ) → j < suc d → Moves (minus (entry m i)) (offset (boxSide d D) i (splitPlace d D) j) (along vs a 0) (along vs a j)
   away j h = rw (r .reads i l j (omega arith), r .reads i l 0 (omega arith), closed-near lo s (minus (entry m i)) i k 0 (omega arith))
       (closed-away lo s (minus (entry m i)) i k d j (side-of d D d0 deep .even) (omega arith))
     where
