@@ -1,5 +1,6 @@
-// What every crate may use: a byte as a size, a copy of bytes.
+// What every crate may use: a byte as a size, one of two numbers, a copy of bytes.
 ghost use mathlib.Core.Path.{_≡_};
+ghost use mathlib.Core.Bool.{cond};
 ghost use Prim.Native.Nat.{_+_, _≤_};
 ghost use lib.ListN.{length, drop};
 ghost use lib.Seq.{paste};
@@ -8,6 +9,16 @@ pub fn size(x: u8) -> usize
     ensures { λ r. ⌜ r ≡ x ⌝ }
 {
     x as usize
+}
+
+// One of two numbers.
+pub fn pick(b: bool, x: u64, y: u64) -> u64
+    ensures { λ r. ⌜ r ≡ cond b x y ⌝ }
+{
+    if b {
+        return x;
+    }
+    y
 }
 
 // Copies n bytes from `from` in src to `to` in dst.

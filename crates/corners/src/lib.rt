@@ -21,16 +21,6 @@ use dimension::Dim;
 use entries::check;
 use entries::words;
 
-// One of two numbers.
-fn pick(b: bool, x: u64, y: u64) -> u64
-    ensures { λ r. ⌜ r ≡ cond b x y ⌝ }
-{
-    if b {
-        return x;
-    }
-    y
-}
-
 // A step by plus or minus so much.
 fn step_of(reach: u64, minus: bool) -> i32
     requires { ⌜ reach < 65536 ⌝ }
@@ -139,10 +129,10 @@ fn low_sides(code: &[u8], d: usize, side: u64) -> u64
 fn rise(side: u64, far: u64, back: u64, e: u8, t: usize, j: usize) -> u64
     ensures { λ r. ⌜ r ≡ cond (minus e) (cond (leb j t) side back) (cond (leb j t) 0 far) ⌝ }
 {
-    pick(
+    common::pick(
         entries::is_minus(e),
-        pick(j <= t, side, back),
-        pick(j <= t, 0, far),
+        common::pick(j <= t, side, back),
+        common::pick(j <= t, 0, far),
     )
 }
 
@@ -160,7 +150,7 @@ fn vertex_at(lows: u64, side: u64, entries: u32, split: usize, j: usize) -> u64
     requires { ⌜ VertexReady lows side entries split j ⌝ }
     ensures { λ r. ⌜ VertexOf lows side entries split j r ⌝ }
 {
-    let reach = pick(j <= split, side, side / 2);
+    let reach = common::pick(j <= split, side, side / 2);
     let far = moved(0, step_of(reach, false));
     let back = moved(side, step_of(reach, true));
     let mut point = lows;
@@ -174,7 +164,7 @@ fn vertex_at(lows: u64, side: u64, entries: u32, split: usize, j: usize) -> u64
 }
 
 // The side of the box of a code that passes, which has d axes.
-fn side_of(code: &[u8], d: usize) -> u64
+pub fn side_of(code: &[u8], d: usize) -> u64
     requires { ⌜ (codeRefusal (now code) ≡ done) × (d ≡ dimensionOf (now code)) ⌝ }
     ensures { λ r. ⌜ r ≡ boxSide (dimensionOf (now (code .entry))) (depthOf (now (code .entry))) ⌝ }
 {
