@@ -1,10 +1,11 @@
-// Grey values: the weighted sum of a record's samples, its quotient by the cube's side as an f64 that loses nothing, and the answer
-// that carries it or a refusal.
+// Grey values: the weighted sum of a record's samples, its quotient by the cube's side as an f64 that loses nothing, the same of a
+// difference of two sums, and the answer that carries a value or a refusal.
 ghost use mathlib.Core.Path.{_≡_};
 ghost use Prim.Native.Nat.{suc, _*_, _^_, _≤_, _<_};
+ghost use lib.IntN.{subℕ};
 ghost use lib.ListN.{length, take};
 ghost use Rattle.dimension.specs.Sizes.{axesOf, cubeSide};
-ghost use Rattle.greys.specs.Fractions.{Fraction, Power};
+ghost use Rattle.greys.specs.Fractions.{Fraction, Quotient, Power};
 ghost use Rattle.greys.specs.Samples.{sampleAt, greySum, Weighable};
 ghost use Rattle.greys.specs.Values.{flatOf};
 use bisection::DONE;
@@ -52,6 +53,16 @@ pub fn fraction(sum: u64, side: u64) -> f64
     n / s
 }
 
+// A difference divided by a power of two: nothing is lost, and no difference gives +0.0.
+pub fn quotient(up: u64, down: u64, side: u64) -> f64
+    requires { ⌜ (up < 2 ^ 53) × (down < 2 ^ 53) × Power side ⌝ }
+    ensures { λ r. ⌜ Quotient r (subℕ up down) side ⌝ }
+{
+    let n = up as i64 - down as i64;
+    let s = side as f64;
+    n as f64 / s
+}
+
 fn wide(x: u8) -> u64
     ensures { λ r. ⌜ (r ≡ x) × (r < 256) ⌝ }
 {
@@ -59,7 +70,7 @@ fn wide(x: u8) -> u64
 }
 
 // Sample i of a width in bytes, read from its high byte down.
-fn sample(samples: &[u8], width: usize, i: usize) -> u64
+pub fn sample(samples: &[u8], width: usize, i: usize) -> u64
     requires { ⌜ (width ≤ 3) × (width * suc i ≤ length (now samples)) ⌝ }
     ensures { λ r. ⌜ (r ≡ sampleAt width (now (samples .entry)) i) × (r < 2 ^ 24) ⌝ }
 {

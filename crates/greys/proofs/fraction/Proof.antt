@@ -1,11 +1,12 @@
 -- `fraction` meets its contract: both numbers are floats, and so is their quotient.
-use Rattle.greys.specs.Exact.{cast-sum, cast-side, divided}
+use lib.IntN.{pos}
+use Rattle.greys.specs.Exact.{cast-whole, cast-side, divided}
 use Rattle.greys.proofs.fraction.Statement.{statement}
 use Rattle.greys.proofs.fraction.Tie as tie
 
 pub fraction-spec : {M : Type 1} → statement M
 fraction-spec = tie.close
     (tie.spec
-    (λ c. cast-sum (c .before .pre .0))
+    (λ c. cast-whole (pos _) (c .before .pre .0))
     (λ c. let start : tie.Start = search in cast-side (start .pre .1))
     (λ c. let start : tie.Start = search in divided (start .pre .0) (start .pre .1)))
