@@ -3,7 +3,7 @@ use mathlib.Core.Path.{_≡_, refl, sym, ap, _∙_}
 use mathlib.Core.Bool.{Bool, true, false, cond}
 use Prim.Native.Nat.{ℕ, _+_, _-_, _*_, _/_, _^_, _≤_, _<_}
 use native.Mathlib.Omega.{arith}
-use native.Mathlib.Nat.{mul-pos, mul-assoc, eq-of-mul-eq-mul-right, lt-of-lt-of-le}
+use native.Mathlib.Nat.{mul-pos, mul-assoc, eq-of-mul-eq-mul-left, eq-of-mul-eq-mul-right, lt-of-lt-of-le}
 use lib.Dec.{T, le→leb, lt→ltb}
 use lib.Pow.{pow-add, pow-pos, pow-mono, shl-lt}
 use lib.IntN.{ℤ, pos, negsuc, natAbs}
@@ -16,8 +16,8 @@ use lib.Ieee.Nearest.{div-same}
 use lib.Ieee.Scale.{round-same}
 use lib.Ieee.Fits.{down-pos, round-fits}
 use borrow.Author.Tests.{ne-eqb}
-use Rattle.dimension.specs.Sizes.{halvings, cubeSide}
-use Rattle.dimension.specs.Laws.{halvings-few}
+use Rattle.dimension.specs.Sizes.{halvings, cubeSide, greatestDepth, boxDepth, boxSide}
+use Rattle.dimension.specs.Laws.{halvings-few, side-whole, box-in}
 use Rattle.greys.specs.Fractions.{Fraction, Quotient, negative, Power, plusZero}
 
 pub power-some : {s : ℕ} → Power s → 0 < s
@@ -26,6 +26,20 @@ power-some p = rw (p .is) (pow-pos (p .log))
 pub cube-power : Power cubeSide
 unfolding cubeSide
 cube-power = record { log = halvings; few = omega (arith, halvings-few); is = refl }
+
+-- so is the side of every box
+pub box-power : (d D : ℕ) → 0 < d → D ≤ greatestDepth d → Power (boxSide d D)
+unfolding boxSide
+box-power d D d0 deep = record { log = halvings - boxDepth d D; few = omega (arith, halvings-few); is = eq-of-mul-eq-mul-left (2 ^ boxDepth d D) (pow-pos (boxDepth d D)) _ _ (side-whole (boxDepth d D) few ∙ whole) }
+  where
+    few : boxDepth d D ≤ halvings
+    few = box-in d D d0 deep
+
+    parts : halvings ≡ boxDepth d D + (halvings - boxDepth d D)
+    parts = omega (arith, few)
+
+    whole : cubeSide ≡ 2 ^ boxDepth d D * 2 ^ (halvings - boxDepth d D)
+    whole = unfold cubeSide in ap (λ (n : ℕ). 2 ^ n) parts ∙ pow-add 2 (boxDepth d D) (halvings - boxDepth d D)
 
 -- ---- one float for a quotient: its bits tell of the sign and of the value in units of the smallest one, cut to a whole number
 
