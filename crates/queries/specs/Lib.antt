@@ -5,7 +5,7 @@ pub mod Queries
 pub mod Theorems
 -- Two outcomes that a contract allows are equal.
 pub mod Determined
--- The record that a query is answered from.
+-- The record of the leaf at a point, and the one that a query is answered from.
 pub mod Choice
 -- The weights as they are written.
 pub mod Writing

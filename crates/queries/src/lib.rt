@@ -9,7 +9,7 @@ ghost use Rattle.dimension.specs.Sizes.{axesOf};
 ghost use Rattle.sheets.specs.Sheets.{sheetMark, sampleWidth};
 ghost use Rattle.sheets.specs.Steps.{markOf};
 ghost use Rattle.points.specs.Points.{pointOf};
-ghost use Rattle.queries.specs.Choice.{ChoiceReady, ChosenIs};
+ghost use Rattle.queries.specs.Choice.{ChoiceReady, StandsIs, ChosenIs};
 ghost use Rattle.queries.specs.Queries.{leafTold, LeafIs, ValueIs};
 ghost use Rattle.queries.specs.Answers.{GreyIs};
 ghost use Rattle.queries.specs.Writing.{weightBytes, WeightsReady};
@@ -31,6 +31,15 @@ pub struct LeafAnswer {
     pub length: usize,
 }
 
+// The record of the leaf at a point: its number, where it begins, how deep its leaf is, and the point's weights in the leaf's root, of
+// the cube's side as their sum.
+pub struct Standing {
+    pub number: usize,
+    pub offset: usize,
+    pub depth: usize,
+    pub first: [u64; 5],
+}
+
 // The record that a query is answered from: its number, how deep its leaf is, where its samples stand, and the point's weights in
 // that leaf, of the cube's side as their sum.
 pub struct Chosen {
@@ -41,25 +50,40 @@ pub struct Chosen {
 }
 
 // The record of the first leaf in tree order whose closed cell contains the point: the one leaf on the way down to it.
-pub fn record_at(edition: Edition, sheet: &[u8], dimension: u8, point: &[u8]) -> Chosen
+pub fn first_leaf(edition: Edition, sheet: &[u8], dimension: u8, point: &[u8]) -> Standing
     requires { ⌜ ChoiceReady (markOf edition) (edition .width) (now sheet) dimension (now point) ⌝ }
-    ensures { λ r. ⌜ ChosenIs (markOf edition) (edition .width) (now (sheet .entry)) dimension (pointOf (now (point .entry))) r ⌝ }
+    ensures { λ r. ⌜ StandsIs (markOf edition) (edition .width) (now (sheet .entry)) dimension (pointOf (now (point .entry))) r ⌝ }
 {
-    let dim = Dim::checked(dimension);
-    let way = ways::way_to(point, dim);
+    let way = ways::way_to(point, Dim::checked(dimension));
     let place = Ahead {
         stretches: way.root,
         part: way.position,
     };
     let sought = finding::seek(edition, sheet, dimension, 0, 0, place);
     let first = way.weights;
-    let there = ways::descend(first, dim, sought.depth);
-    let weights = there.weights;
-    let code = dim.code_length(sought.depth);
-    Chosen {
+    Standing {
         number: sought.number,
+        offset: sought.offset,
         depth: sought.depth,
-        samples: sought.offset + (sheets::MARK_LENGTH + code),
+        first,
+    }
+}
+
+// The same, with the point's weights in the leaf and where the samples stand.
+pub fn record_at(edition: Edition, sheet: &[u8], dimension: u8, point: &[u8]) -> Chosen
+    requires { ⌜ ChoiceReady (markOf edition) (edition .width) (now sheet) dimension (now point) ⌝ }
+    ensures { λ r. ⌜ ChosenIs (markOf edition) (edition .width) (now (sheet .entry)) dimension (pointOf (now (point .entry))) r ⌝ }
+{
+    let dim = Dim::checked(dimension);
+    let standing = first_leaf(edition, sheet, dimension, point);
+    let first = standing.first;
+    let there = ways::descend(first, dim, standing.depth);
+    let weights = there.weights;
+    let code = dim.code_length(standing.depth);
+    Chosen {
+        number: standing.number,
+        depth: standing.depth,
+        samples: standing.offset + (sheets::MARK_LENGTH + code),
         weights,
     }
 }

@@ -1,48 +1,40 @@
--- `record_at` meets its contract: the leaf on the way down, by its place on the line.
+-- `record_at` meets its contract: the way down from the root of the leaf at the point ends in that leaf.
 use native.Mathlib.Omega.{arith}
-use Rattle.queries.specs.Choice.{choice-known, choice-point, choice-seek, choice-begun, choice-deep, choice-room, choice-is}
+use Rattle.queries.specs.Choice.{choice-known, stands-begun, stands-deep, stands-room, stands-chosen}
 use borrow.Author.Needs.{needs}
 use Rattle.queries.proofs.record_at.Statement.{statement}
 use Rattle.queries.proofs.record_at.Tie as tie
 
-add-t13 : tie.Need-add-t13
-add-t13 c =
-    let start : tie.Start = search in
+add-t11 : tie.Need-add-t11
+add-t11 c =
     let checked : tie.After-checked = search in
-    let way : tie.After-way-to = search in
-    let found : tie.After-seek = search in
-    let down : tie.After-descend = search in
-    let room = choice-room (start .pre) (checked .checked .ensures) (way .way-to .ensures) (found .seek .ensures) (down .descend .ensures) (c .code-length .ensures) in
-    omega (arith, found .seek .ensures .long, room)
+    let leaf : tie.After-first-leaf = search in
+    omega (arith, stands-room (leaf .first-leaf .ensures) (checked .checked .ensures) (c .code-length .ensures))
 
-add-t14 : tie.Need-add-t14
-add-t14 c =
+add-t12 : tie.Need-add-t12
+add-t12 c =
     let start : tie.Start = search in
     let checked : tie.After-checked = search in
-    let way : tie.After-way-to = search in
-    let found : tie.After-seek = search in
-    let down : tie.After-descend = search in
-    let room = choice-room (start .pre) (checked .checked .ensures) (way .way-to .ensures) (found .seek .ensures) (down .descend .ensures) (c .before .code-length .ensures) in
-    omega (arith, found .seek .ensures .long, room)
+    let leaf : tie.After-first-leaf = search in
+    let code : tie.After-code-length = search in
+    omega (arith, start .good, stands-room (leaf .first-leaf .ensures) (checked .checked .ensures) (code .code-length .ensures))
 
 returns : tie.Need-returns
 returns c =
-    let start : tie.Start = search in
     let checked : tie.After-checked = search in
-    let way : tie.After-way-to = search in
-    let found : tie.After-seek = search in
+    let leaf : tie.After-first-leaf = search in
     let down : tie.After-descend = search in
-    choice-is (start .pre) (checked .checked .ensures) (way .way-to .ensures) (found .seek .ensures) (down .descend .ensures) (c .before .code-length .ensures)
+    let code : tie.After-code-length = search in
+    stands-chosen (leaf .first-leaf .ensures) (checked .checked .ensures) (code .code-length .ensures) (down .descend .ensures)
 
 pub record-at-spec : {M : Type 1} → statement M
 record-at-spec =
     tie.close
     (tie.spec
     (λ c κs. search (needs, choice-known))
-    (λ c κs. search (needs, choice-point))
-    (λ c κs. search (needs, choice-seek))
-    (λ c κs. search (needs, choice-begun, choice-deep))
     (λ c κs. search needs)
-    add-t13
-    add-t14
+    (λ c κs. search (needs, stands-begun, stands-deep))
+    (λ c κs. search needs)
+    add-t11
+    add-t12
     returns)
