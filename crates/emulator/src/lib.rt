@@ -6,6 +6,7 @@ ghost use Rattle.codes.specs.Outcomes.{PathToCode, CodeToPath, Vertices, Child,
 ghost use Rattle.crossing.specs.Outcome.{Crosses};
 ghost use Rattle.sheets.specs.Sheets.{SheetIs};
 ghost use Rattle.queries.specs.Queries.{LeafIs, FlatValueIs};
+ghost use Rattle.queries.specs.SlopeQueries.{FlatSlopeIs};
 ghost use Rattle.compatible.specs.Compatible.{CompatibleIs};
 use codes::PathWritten;
 use codes::Written;
@@ -14,6 +15,7 @@ use crossing::Crossed;
 use greys::ValueAnswer;
 use queries::LeafAnswer;
 use sheets::SheetAnswer;
+use slopes::SlopeAnswer;
 
 #[no_mangle]
 pub extern "C" fn rmk_code_check(code: &[u8]) -> u8
@@ -83,6 +85,13 @@ pub extern "C" fn rmk_value_at(sheet: &[u8], point: &[u8]) -> ValueAnswer
     ensures { λ r. ⌜ FlatValueIs (now (sheet .entry)) (now (point .entry)) r ⌝ }
 {
     greys::flat(queries::value_at(sheet, point))
+}
+
+#[no_mangle]
+pub extern "C" fn rmk_slope_at(sheet: &[u8], point: &[u8]) -> SlopeAnswer
+    ensures { λ r. ⌜ FlatSlopeIs (now (sheet .entry)) (now (point .entry)) r ⌝ }
+{
+    slopes::flat(queries::slope_at(sheet, point))
 }
 
 #[no_mangle]

@@ -25,7 +25,7 @@ use Rattle.sheets.specs.declared.SheetAnswer.{SheetAnswer}
 use Rattle.sheets.specs.declared.Edition.{Edition}
 use Rattle.sheets.specs.declared.RecordParts.{RecordParts}
 use Rattle.sheets.specs.Forests.{TreeCell}
-use Rattle.sheets.specs.Sheets.{SheetIs, good, record-refused, not-next, ended-early, recordRefusal, samplesOf, GoodSheet, leafIn, sheetMark, sampleWidth, Good, sheet-refused, sheet-good}
+use Rattle.sheets.specs.Sheets.{SheetIs, good, record-refused, not-next, ended-early, recordRefusal, samplesOf, GoodSheet, leafIn, sheetMark, sampleWidth, Good, Query, sheet-refused, sheet-good}
 use Rattle.sheets.specs.Steps.{markOf, IsFirst, PartsAre}
 use Rattle.sheets.specs.Theorems.FirstRecord.{first-record}
 use Rattle.sheets.specs.Theorems.Listing.{GoodCell}
@@ -105,6 +105,12 @@ pub record GreyIs (sheet : List ℕ) (d : ℕ) (point : List ℕ) (x : Float) : 
 abbrev pub slice : List ℕ → ℕ → ℕ → List ℕ
 slice sheet start n = take (start + n - start) (drop start sheet)
 
+pub slice-at : (sheet : List ℕ) (start n : ℕ) → slice sheet start n ≡ take n (drop start sheet)
+slice-at sheet start n = let e : start + n - start ≡ n = omega arith in ap (λ (k : ℕ). take k (drop start sheet)) e
+
+pub slice-length : (sheet : List ℕ) (start n : ℕ) → start + n ≤ length sheet → length (slice sheet start n) ≡ n
+slice-length sheet start n l = omega (arith, length-take (start + n - start) (drop start sheet), length-drop start sheet)
+
 module _ {sheet point : List ℕ} {d : ℕ} {r : Chosen} (ready : ChoiceReady sheetMark sampleWidth sheet d point) (c : ChosenIs sheetMark sampleWidth sheet d (pointOf point) r) where
   in-cube : length (pointOf point) ≡ d
   in-cube = point-in-cube d point (ready .passes) .axes
@@ -114,10 +120,7 @@ module _ {sheet point : List ℕ} {d : ℕ} {r : Chosen} (ready : ChoiceReady sh
     size-is = is ∙ ap (λ (w : ℕ). w * suc d) (f .width-is)
 
     slice-is : slice sheet (r .samples) n ≡ samplesOf (c .good .records) (r .number)
-    slice-is = ap (λ (k : ℕ). take k (drop (r .samples) sheet)) (cancel (r .samples) n ∙ size-is) ∙ c .samples-are
-      where
-        cancel : (a b : ℕ) → a + b - a ≡ b
-        cancel a b = omega arith
+    slice-is = slice-at sheet (r .samples) n ∙ ap (λ (k : ℕ). take k (drop (r .samples) sheet)) size-is ∙ c .samples-are
 
     pub grey-end : r .samples + n ≤ length sheet
     grey-end = omega (arith, size-is, c .room)
@@ -141,22 +144,26 @@ module _ {sheet point : List ℕ} {d : ℕ} {r : Chosen} (ready : ChoiceReady sh
 -- ---- a checked sheet
 
 module _ {sheet : List ℕ} {o : Opened} (s : OpenedIs sheet o) where
-  pub value-shut : {point : List ℕ} → (o .refusal ≡ 0 → ⊥) → ValueIs sheet point (Refused (o .refusal) (o .offset))
-  value-shut {point} k = go s
+  -- a query of a sheet that is not good
+  pub query-shut : (refused : ℕ → ℕ → Type 0) {answered : (n : ℕ) → Good sheet n → Type 0} → (o .refusal ≡ 0 → ⊥) → refused (o .refusal) (o .offset) → Query sheet refused answered
+  query-shut refused {answered} k q = go s
     where
-      go : OpenedIs sheet o → ValueIs sheet point (Refused (o .refusal) (o .offset))
-      go (shut t l e) = sheet-refused t l (rw e refl)
+      go : OpenedIs sheet o → Query sheet refused answered
+      go (shut t l e) = sheet-refused t l (subst (λ (o : Opened). refused (o .refusal) (o .offset)) e q)
       go (checked g e) = absurd (k (ap (λ (o : Opened). o .refusal) e))
 
+  pub value-shut : {point : List ℕ} → (o .refusal ≡ 0 → ⊥) → ValueIs sheet point (Refused (o .refusal) (o .offset))
+  value-shut k = query-shut (λ number offset. Refused (o .refusal) (o .offset) ≡ Refused number offset) k refl
+
   module _ (h : o .refusal ≡ 0) where
-    it : Checked sheet (o .dimension) (o .records)
+    pub it : Checked sheet (o .dimension) (o .records)
     it = opened-checked s h
 
     pub opened-known : isDimension (o .dimension) ≡ true
     opened-known = subst (λ (n : ℕ). isDimension n ≡ true) (it .axes) (it .good-sheet .is-dimension)
 
     module _ {a : ℕ} (is : a ≡ o .dimension) where
-      point-is : (point : List ℕ) → isPoint (it .good-sheet .dimension) point ≡ isPoint a point
+      pub point-is : (point : List ℕ) → isPoint (it .good-sheet .dimension) point ≡ isPoint a point
       point-is point = ap (λ (n : ℕ). isPoint n point) (it .axes ∙ sym is)
 
       pub value-no-point : {point : List ℕ} {b : Bool} → b ≡ isPoint a point → not b ≡ true → ValueIs sheet point (Refused 12 0)
@@ -198,11 +205,7 @@ module _ {mark : List ℕ} {width : ℕ} {sheet : List ℕ} {d : ℕ} {p : Point
 
 module _ {sheet : List ℕ} {o : Opened} (s : OpenedIs sheet o) where
   pub leaf-shut : {point before : List ℕ} {r : LeafAnswer} → (o .refusal ≡ 0 → ⊥) → r ≡ leafTold (o .refusal) (o .offset) 0 0 → LeafIs sheet point before r before
-  leaf-shut {point} {before} {r} k q = go s
-    where
-      go : OpenedIs sheet o → LeafIs sheet point before r before
-      go (shut t l e) = sheet-refused t l (q ∙ rw e refl, refl)
-      go (checked g e) = absurd (k (ap (λ (o : Opened). o .refusal) e))
+  leaf-shut {before = before} {r = r} k q = query-shut s (λ number offset. (r ≡ leafTold number offset 0 0) × (before ≡ before)) k (q, refl)
 
   module _ (h : o .refusal ≡ 0) {a : ℕ} (is : a ≡ o .dimension) where
     -- which test fails first

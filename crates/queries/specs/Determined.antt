@@ -1,5 +1,5 @@
--- Two outcomes that a query's contract allows are equal: a sheet is good in one way only, a point has one leaf there, and the leaf's
--- weights, samples and value are one.
+-- Two outcomes that the contract of the leaf query or of the value query allows are equal: a sheet is good in one way only, a point has one
+-- leaf there, and the leaf's weights, samples and value are one.
 use mathlib.Core.Path.{_≡_, refl, sym, ap, _∙_, subst}
 use mathlib.Core.Bool.{Bool, true, false}
 use mathlib.Core.List.{List, [], _∷_, _++_}
@@ -78,33 +78,33 @@ samples-one {mark} {width} {d} {d′} (more {c = c} {cs = cs} {rest = rest} smp 
     go zero t = both .0
     go (suc i) t = t i
 
--- the leaf at a point of a good sheet, with its weights, its side and its samples
-module _ {sheet : List ℕ} {n m : ℕ} (g : Good sheet n) (h : Good sheet m) {p : Point} (dims : length p ≡ g .dimension) {i j : ℕ} {ws us : List ℕ}
-    (a : LeafAt (g .cells) p i) (b : LeafAt (h .cells) p j) (w : LeafWeights (g .cells) i p ws) (u : LeafWeights (h .cells) j p us) where
-  same-number : i ≡ j
+-- the leaf at a point of a good sheet, with its side and its samples
+module _ {sheet : List ℕ} {n m : ℕ} (g : Good sheet n) (h : Good sheet m) {p : Point} {i j : ℕ} (a : LeafAt (g .cells) p i) (b : LeafAt (h .cells) p j) where
+  pub same-number : i ≡ j
   same-number = leaf-one a (subst (λ (cs : List TreeCell). LeafAt cs p j) (sym (same-cells g h)) b)
 
-  same-leaf : leafIn (g .cells) i ≡ leafIn (h .cells) j
+  pub same-leaf : leafIn (g .cells) i ≡ leafIn (h .cells) j
   same-leaf = ap (λ (cs : List TreeCell). leafIn cs i) (same-cells g h) ∙ ap (leafIn (h .cells)) same-number
 
-  cell : GoodCell (leafIn (g .cells) i) × (length (leafIn (g .cells) i .root) ≡ g .dimension)
-  cell = leaf-good g i (a .number)
+  pub good-leaf : GoodCell (leafIn (g .cells) i) × (length (leafIn (g .cells) i .root) ≡ g .dimension)
+  good-leaf = leaf-good g i (a .number)
 
-  same-weights : ws ≡ us
-  same-weights = weights-one (leafIn (g .cells) i .root) (cell .0 .good-root) (dims ∙ sym (cell .1)) (leafIn (g .cells) i .path) (cell .0 .good-path .depth) w
+  pub same-samples : samplesOf (g .records) i ≡ samplesOf (h .records) j
+  same-samples = samples-one (g .records) (h .records) (same-axes g h) (same-cells g h) refl i ∙ ap (samplesOf (h .records)) same-number
+
+  pub same-side : sideIn (g .cells) i ≡ sideIn (h .cells) j
+  same-side = ap (λ (c : TreeCell). boxSide (length (c .root)) (length (c .path))) same-leaf
+
+  pub side-some : 0 < sideIn (g .cells) i
+  side-some = side-of (length (leafIn (g .cells) i .root)) (length (leafIn (g .cells) i .path)) (some-axes (good-leaf .0 .good-root .dimension)) (good-leaf .0 .good-path .depth) .some
+
+  -- and with its weights
+  same-weights : {ws us : List ℕ} → length p ≡ g .dimension → LeafWeights (g .cells) i p ws → LeafWeights (h .cells) j p us → ws ≡ us
+  same-weights {us = us} dims w u = weights-one (leafIn (g .cells) i .root) (good-leaf .0 .good-root) (dims ∙ sym (good-leaf .1)) (leafIn (g .cells) i .path) (good-leaf .0 .good-path .depth) w
       (subst (λ (c : TreeCell). weighsIn c) (sym same-leaf) u)
     where
       weighsIn : TreeCell → Type 0
       weighsIn c = LeafWeights (c ∷ []) 0 p us
-
-  same-samples : samplesOf (g .records) i ≡ samplesOf (h .records) j
-  same-samples = samples-one (g .records) (h .records) (same-axes g h) (same-cells g h) refl i ∙ ap (samplesOf (h .records)) same-number
-
-  same-side : sideIn (g .cells) i ≡ sideIn (h .cells) j
-  same-side = ap (λ (c : TreeCell). boxSide (length (c .root)) (length (c .path))) same-leaf
-
-  side-some : 0 < sideIn (g .cells) i
-  side-some = side-of (length (leafIn (g .cells) i .root)) (length (leafIn (g .cells) i .path)) (some-axes (cell .0 .good-root .dimension)) (cell .0 .good-path .depth) .some
 
 pub record SameLeaf (r s : LeafAnswer) (after after′ : List ℕ) : Type 0 where
   pub answer : r ≡ s
@@ -118,8 +118,8 @@ leaf-determined {sheet} {point} {before} {after} {after′} {r} {s} q t = query-
     on n m g h (leaf-refused k e b) (leaf-found l x y f c) = absurd (k (ap (λ (d : ℕ). leafRefusal d point (length before)) (same-axes g h) ∙ l))
     on n m g h (leaf-found k a w e b) (leaf-refused l f c) = absurd (l (ap (λ (d : ℕ). leafRefusal d point (length before)) (sym (same-axes g h)) ∙ k))
     on n m g h (leaf-found k a w e b) (leaf-found {i = j} {ws = us} l x y f c) = record {
-      answer = e ∙ ap (λ (i : ℕ). leafTold done 0 i (weightsLength (g .dimension))) (same-number g h in-cube a x w y) ∙ ap (λ (d : ℕ). leafTold done 0 j (weightsLength d)) (same-axes g h) ∙ sym f;
-      buffer = b ∙ ap (λ (ws : List ℕ). pointBytes ws ++ drop (weightsLength (g .dimension)) before) (same-weights g h in-cube a x w y) ∙ ap (λ (d : ℕ). pointBytes us ++ drop (weightsLength d) before) (same-axes g h) ∙ sym c;
+      answer = e ∙ ap (λ (i : ℕ). leafTold done 0 i (weightsLength (g .dimension))) (same-number g h a x) ∙ ap (λ (d : ℕ). leafTold done 0 j (weightsLength d)) (same-axes g h) ∙ sym f;
+      buffer = b ∙ ap (λ (ws : List ℕ). pointBytes ws ++ drop (weightsLength (g .dimension)) before) (same-weights g h a x in-cube w y) ∙ ap (λ (d : ℕ). pointBytes us ++ drop (weightsLength d) before) (same-axes g h) ∙ sym c;
     }
       where
         in-cube : length (pointOf point) ≡ g .dimension
@@ -133,16 +133,16 @@ value-determined {sheet} {point} {v} {u} q t = query-one q t (λ number offset x
     on n m g h (value-refused k e) (value-refused l f) = e ∙ sym f
     on n m g h (value-refused k e) (value-found l x y z f) = absurd (subst T (sym (ap (λ (d : ℕ). isPoint d point) (same-axes g h)) ∙ k) (subst T (sym l) tt))
     on n m g h (value-found k a w z e) (value-refused l f) = absurd (subst T (ap (λ (d : ℕ). isPoint d point) (same-axes g h) ∙ l) (subst T (sym k) tt))
-    on n m g h (value-found {i = i} {ws = ws} {x = x} k a w z e) (value-found {i = j} {ws = us} {x = y} l b w′ z′ f) = e ∙ ap Grey (fraction-one (side-some g h in-cube a b w w′) z there) ∙ sym f
+    on n m g h (value-found {i = i} {ws = ws} {x = x} k a w z e) (value-found {i = j} {ws = us} {x = y} l b w′ z′ f) = e ∙ ap Grey (fraction-one (side-some g h a b) z there) ∙ sym f
       where
         in-cube : length (pointOf point) ≡ g .dimension
         in-cube = point-in-cube (g .dimension) point k .axes
 
         same-sum : greySum sampleWidth us (samplesOf (h .records) j) ≡ greySum sampleWidth ws (samplesOf (g .records) i)
-        same-sum = sym (ap (λ (l : List ℕ). greySum sampleWidth l (samplesOf (g .records) i)) (same-weights g h in-cube a b w w′) ∙ ap (greySum sampleWidth us) (same-samples g h in-cube a b w w′))
+        same-sum = sym (ap (λ (l : List ℕ). greySum sampleWidth l (samplesOf (g .records) i)) (same-weights g h a b in-cube w w′) ∙ ap (greySum sampleWidth us) (same-samples g h a b))
 
         there : Fraction y (greySum sampleWidth ws (samplesOf (g .records) i)) (sideIn (g .cells) i)
-        there = subst (λ (n : ℕ). Fraction y n (sideIn (g .cells) i)) same-sum (subst (Fraction y (greySum sampleWidth us (samplesOf (h .records) j))) (sym (same-side g h in-cube a b w w′)) z′)
+        there = subst (λ (n : ℕ). Fraction y n (sideIn (g .cells) i)) same-sum (subst (Fraction y (greySum sampleWidth us (samplesOf (h .records) j))) (sym (same-side g h a b)) z′)
 
 pub flat-determined : {sheet point : List ℕ} {r s : ValueAnswer} → FlatValueIs sheet point r → FlatValueIs sheet point s → r ≡ s
 flat-determined f g = f .is ∙ ap flatOf (value-determined (f .value) (g .value)) ∙ sym (g .is)

@@ -1,4 +1,4 @@
-// Point queries: the leaf at a point and its weights, and the exact grey value there. The whole sheet is checked first. No leaf is
+// Point queries: the leaf at a point and its weights, and the exact grey value and slope there. The whole sheet is checked first. No leaf is
 // tested: the way down to the point gives a place on the line of all cells, and the leaf there is the one that the document asks for.
 ghost use mathlib.Core.Path.{_≡_};
 ghost use mathlib.Core.List.{[], _∷_};
@@ -12,6 +12,8 @@ ghost use Rattle.points.specs.Points.{pointOf};
 ghost use Rattle.queries.specs.Choice.{ChoiceReady, StandsIs, ChosenIs};
 ghost use Rattle.queries.specs.Queries.{leafTold, LeafIs, ValueIs};
 ghost use Rattle.queries.specs.Answers.{GreyIs};
+ghost use Rattle.queries.specs.SlopeQueries.{SlopeIs};
+ghost use Rattle.queries.specs.SlopeAnswers.{SlopesAt};
 ghost use Rattle.queries.specs.Writing.{weightBytes, WeightsReady};
 use bisection::DONE;
 use bisection::REFUSED_SHORT;
@@ -21,6 +23,8 @@ use finding::opened;
 use greys::Value;
 use points::REFUSED_POINT;
 use sheets::Edition;
+use slopes::Slope;
+use slopes::Slopes;
 
 // The answer of a leaf query: the record's number, and how many bytes of weights stand at the buffer's front.
 #[repr(C)]
@@ -187,4 +191,37 @@ pub fn value_at(sheet: &[u8], point: &[u8]) -> Value
         };
     }
     Value::Grey(grey_at(sheet, opened.dimension, point))
+}
+
+// The slopes in the first leaf at a point of a good sheet, from its code and from its samples, which stand right behind the code.
+fn slopes_at(edition: Edition, sheet: &[u8], dimension: u8, point: &[u8]) -> Slopes
+    requires { ⌜ ChoiceReady (markOf edition) (edition .width) (now sheet) dimension (now point) × (edition .width ≤ 3) ⌝ }
+    ensures { λ r. ⌜ SlopesAt (markOf edition) (edition .width) (now (sheet .entry)) dimension (now (point .entry)) r ⌝ }
+{
+    let width = edition.width;
+    let leaf = first_leaf(edition, sheet, dimension, point);
+    let code = leaf.offset + sheets::MARK_LENGTH;
+    let samples = code + Dim::checked(dimension).code_length(leaf.depth);
+    let end = samples + sheets::samples_length(width, dimension);
+    slopes::in_cell(&sheet[code..samples], &sheet[samples..end], width)
+}
+
+// The slope of the grey field at a point, exact.
+pub fn slope_at(sheet: &[u8], point: &[u8]) -> Slope
+    ensures { λ r. ⌜ SlopeIs (now (sheet .entry)) (now (point .entry)) r ⌝ }
+{
+    let opened = opened::check_sheet(sheet);
+    if opened.refusal != DONE {
+        return Slope::Refused {
+            number: opened.refusal,
+            offset: opened.offset,
+        };
+    }
+    if !ways::is_point(point, Dim::checked(opened.dimension)) {
+        return Slope::Refused {
+            number: REFUSED_POINT,
+            offset: 0,
+        };
+    }
+    Slope::Along(slopes_at(sheets::first_edition(), sheet, opened.dimension, point))
 }

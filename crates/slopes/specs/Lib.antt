@@ -5,3 +5,5 @@ pub mod Slopes
 pub mod Along
 -- What the walk over the entries keeps, and that its end is the slope.
 pub mod Gathering
+-- Two records of components of the same numbers are equal.
+pub mod Determined
