@@ -5,7 +5,7 @@
  *
  * It is C11 and C++11, so that the header is tried in both. What is expected comes from the document's text: the worked
  * cells P1 to P10, the 24-byte sheet, the limits, the order of the refusals, and for a few more cells and points the rules
- * of the bisection, of the code and of the weights, followed by hand.
+ * of the bisection, of the code, of the weights and of the slope, followed by hand.
  */
 #include "reshmokhit.h"
 #include "reshmokhit.h" /* the second time changes nothing */
@@ -48,6 +48,7 @@ static_assert(RMK_REFUSED_INPUT == 15, "program only: input over 65,536 bytes");
     static_assert(offsetof(answer, field) == (at), #answer " has " #field " elsewhere")
 
 typedef uint16_t four_coordinates[4];
+typedef double four_slopes[4];
 
 FIELD(rmk_written, uint8_t, refusal, 0);
 FIELD(rmk_written, size_t, length, sizeof(size_t));
@@ -85,6 +86,11 @@ FIELD(rmk_value_answer, size_t, offset, sizeof(size_t));
 FIELD(rmk_value_answer, double, value, 2 * sizeof(size_t));
 static_assert(sizeof(rmk_value_answer) == 2 * sizeof(size_t) + sizeof(double), "rmk_value_answer has other fields");
 
+FIELD(rmk_slope_answer, uint8_t, refusal, 0);
+FIELD(rmk_slope_answer, size_t, offset, sizeof(size_t));
+FIELD(rmk_slope_answer, four_slopes, slope, 2 * sizeof(size_t));
+static_assert(sizeof(rmk_slope_answer) == 2 * sizeof(size_t) + 4 * sizeof(double), "rmk_slope_answer has other fields");
+
 /* A pointer of the expected type takes an entry of that type alone. */
 #define TYPE(entry, answer, ...) \
     do { \
@@ -105,6 +111,7 @@ static void entry_types(void)
     TYPE(rmk_compatible, rmk_compatible_answer, const uint8_t *, size_t);
     TYPE(rmk_leaf_at, rmk_leaf_answer, const uint8_t *, size_t, const uint8_t *, size_t, uint8_t *, size_t);
     TYPE(rmk_value_at, rmk_value_answer, const uint8_t *, size_t, const uint8_t *, size_t);
+    TYPE(rmk_slope_at, rmk_slope_answer, const uint8_t *, size_t, const uint8_t *, size_t);
 }
 
 /* Byte strings and lent outputs. */
@@ -183,11 +190,11 @@ static void same_number(const char *name, size_t expected, size_t given)
 }
 
 /* Bit for bit, so that -0.0 is not +0.0. */
-static void same_value(double expected, double given)
+static void same_value(const char *name, double expected, double given)
 {
     if (memcmp(&expected, &given, sizeof given) == 0)
         return;
-    printf("%s: value is %.17g, not %.17g\n", call, given, expected);
+    printf("%s: %s is %.17g, not %.17g\n", call, name, given, expected);
     differences++;
 }
 
@@ -290,14 +297,14 @@ static void parent(const char *code_text, size_t lent, uint8_t refusal, const ch
     same_cells("out", &expected, &out);
 }
 
+static const char *const axes[] = {"axis 1", "axis 2", "axis 3", "axis 4"};
+
 /* The new vertex has d coordinates, and zeros on the other axes; four zeros where it is empty. */
 static void same_vertex(const char *vertex_text, const uint16_t *given)
 {
-    static const char *const names[] = {"axis 1 of the vertex", "axis 2 of the vertex", "axis 3 of the vertex",
-                                        "axis 4 of the vertex"};
     bytes expected = coordinates(vertex_text);
     for (size_t a = 0; a < 4; a++)
-        same_number(names[a], expected.at[2 * a] + 256u * expected.at[2 * a + 1], given[a]);
+        same_number(axes[a], expected.at[2 * a] + 256u * expected.at[2 * a + 1], given[a]);
 }
 
 static void fill_stack(void)
@@ -312,10 +319,17 @@ static void call_cross(const bytes *code, uint8_t facet, bytes *out, rmk_crossed
     *answer = rmk_cross(code->at, code->length, facet, out->at, out->length);
 }
 
-/* An answer of this size comes through memory. So the stack is filled before it is asked for: a coordinate that is left
- * unset is then no 0. Through these pointers both functions are called as they stand, in the same part of the stack. */
+static void call_slope(const bytes *sheet, const bytes *point, rmk_slope_answer *answer)
+{
+    *answer = rmk_slope_at(sheet->at, sheet->length, point->at, point->length);
+}
+
+/* An answer of such a size comes through memory. So the stack is filled before it is asked for: a coordinate or a slope
+ * that is left unset is then no 0. Through these pointers the functions are called as they stand, in the same part of the
+ * stack. */
 static void (*volatile fill)(void) = fill_stack;
 static void (*volatile crossed)(const bytes *, uint8_t, bytes *, rmk_crossed *) = call_cross;
+static void (*volatile sloped)(const bytes *, const bytes *, rmk_slope_answer *) = call_slope;
 
 static void cross(const char *code_text, uint8_t facet, size_t lent, uint8_t refusal, const char *across_text,
                   uint8_t place, const char *vertex_text)
@@ -380,10 +394,24 @@ static void value_at_bytes(const char *sheet_text, const char *point_text, bytes
     rmk_value_answer answer = rmk_value_at(sheet.at, sheet.length, point.at, point.length);
     same_number("refusal", refusal, answer.refusal);
     same_number("offset", offset, answer.offset);
-    same_value(value, answer.value);
+    same_value("value", value, answer.value);
 }
 
-/* Both queries at a point of a good sheet. */
+static void slope_at_bytes(const char *sheet_text, const char *point_text, bytes point, uint8_t refusal, size_t offset,
+                           const double *slope)
+{
+    bytes sheet = hex(sheet_text);
+    rmk_slope_answer answer;
+    begin("slope", sheet_text, point_text);
+    fill();
+    sloped(&sheet, &point, &answer);
+    same_number("refusal", refusal, answer.refusal);
+    same_number("offset", offset, answer.offset);
+    for (size_t a = 0; a < 4; a++)
+        same_value(axes[a], slope[a], answer.slope[a]);
+}
+
+/* The leaf and the value at a point of a good sheet. */
 static void query(const char *sheet_text, const char *point_text, size_t number, const char *weights_text, double value)
 {
     bytes point = coordinates(point_text);
@@ -392,12 +420,21 @@ static void query(const char *sheet_text, const char *point_text, size_t number,
     value_at_bytes(sheet_text, point_text, point, RMK_DONE, 0, value);
 }
 
-/* Both queries refused, the leaf's with room and with none. */
+/* The slope there: a whole number for each of the two axes, over the side of the leaf's box. */
+static void slope(const char *sheet_text, const char *point_text, int axis_1, int axis_2, int side)
+{
+    const double expected[4] = {(double)axis_1 / side, (double)axis_2 / side, 0.0, 0.0};
+    slope_at_bytes(sheet_text, point_text, coordinates(point_text), RMK_DONE, 0, expected);
+}
+
+/* All queries refused, the leaf's with room and with none. */
 static void query_refused(const char *sheet_text, const char *point_text, bytes point, uint8_t refusal, size_t offset)
 {
+    const double zeros[4] = {0.0, 0.0, 0.0, 0.0};
     leaf_at_bytes(sheet_text, point_text, point, AMPLE, refusal, offset, 0, "");
     leaf_at_bytes(sheet_text, point_text, point, 0, refusal, offset, 0, "");
     value_at_bytes(sheet_text, point_text, point, refusal, offset, 0.0);
+    slope_at_bytes(sheet_text, point_text, point, refusal, offset, zeros);
 }
 
 static void point_refused(const char *sheet_text, const char *point_text)
@@ -405,7 +442,7 @@ static void point_refused(const char *sheet_text, const char *point_text)
     query_refused(sheet_text, point_text, coordinates(point_text), RMK_REFUSED_POINT, 0);
 }
 
-/* The sheet check, and the compatibility test and both queries, which refuse a sheet as it does, whatever the point and
+/* The sheet check, and the compatibility test and all queries, which refuse a sheet as it does, whatever the point and
  * the lent output. */
 static void sheet_refused(const char *sheet_text, uint8_t refusal, size_t offset)
 {
@@ -694,6 +731,35 @@ static void try_queries(void)
     query("43 4C " P1 " FF FF FF FF FF FF " RECORD_1, "4096 1", 0, "0 4095 1", 65535.0);
 }
 
+/* Other samples: 7 at each vertex; the greatest at v1 alone, and at v0 and v1. */
+#define FLAT " 07 00 07 00 07 00 "
+#define PEAK " 00 00 FF FF 00 00 "
+#define CLIFF " FF FF FF FF 00 00 "
+
+static void try_slopes(void)
+{
+    slope(SHEET, "1024 512", 10, 30, 4096); /* worked by the museum: v0 to v1 goes up axis 1, v1 to v2 up axis 2 */
+    slope(SHEET, "1024 1024", 10, 30, 4096); /* both leaves have the point, the first counts */
+    slope(SHEET, "4096 4096", 10, 30, 4096);
+    slope(SHEET, "1024 2048", 20, 20, 4096); /* the other root goes up axis 2 first */
+    /* In P7 v2 stands 2048 up axis 2 from the middle of v0 and v1, and its sample is 35 above the middle's 15. In P2 v2
+     * stands 2048 down axis 1 from the middle. */
+    slope(HALVED, "2048 1024", 10, 70, 4096);
+    slope(HALVED, "4096 2048", -70, 10, 4096);
+    slope(HALVED, "3072 1024", 10, 70, 4096); /* on the facet that the two children share */
+    /* Depth 2: the box has side 2048. In P3 v0 to v1 goes down axis 1. */
+    slope(CORNER, "1024 512", 10, 30, 2048);
+    slope(CORNER, "3072 512", -10, 30, 2048);
+    /* Zero is +0.0, also down an axis: axis 1 of P2 and of P3. */
+    slope("43 4C " P1 FLAT RECORD_1, "1024 512", 0, 0, 4096);
+    slope("43 4C " P7 SAMPLES_2 "43 4C " P2 FLAT RECORD_1, "4096 2048", 0, 0, 4096);
+    slope("43 4C " P8_ACROSS_0 SAMPLES_2 "43 4C " P3 FLAT "43 4C " P2 SAMPLES_2 RECORD_1, "3072 512", 0, 0, 2048);
+    /* The steepest in a box: by a vertex a whole side away, and by one half a side away. */
+    slope("43 4C " P1 PEAK RECORD_1, "1024 512", 65535, -65535, 4096);
+    slope("43 4C " P7 CLIFF "43 4C " P2 CLIFF RECORD_1, "2048 1024", 0, -131070, 4096);
+    slope("43 4C " P7 CLIFF "43 4C " P2 CLIFF RECORD_1, "4096 2048", 131070, 0, 4096);
+}
+
 static void try_query_refusals(void)
 {
     const char *points[] = {"4097 0", "0 4097", "4096 4097", "65535 65535", "", "1024", "1024 1024 1024",
@@ -763,6 +829,7 @@ int main(void)
     try_sheet_check();
     try_compatible();
     try_queries();
+    try_slopes();
     try_query_refusals();
     printf("every_entry: %zu answers compared, %zu differences\n", answers, differences);
     return differences != 0;

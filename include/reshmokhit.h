@@ -32,7 +32,7 @@ extern "C" {
 #endif
 
 /* The version. It stands here alone: the scripts read this line. */
-#define RMK_VERSION "0.10.0"
+#define RMK_VERSION "0.11.0"
 
 /* Sizes. The longest ones suffice as lent outputs in every dimension. */
 #define RMK_HALVINGS 12        /* the greatest depth is this times the dimension */
@@ -110,6 +110,13 @@ typedef struct {
     size_t offset; /* on a refusal of the sheet: as the sheet check gives it; else 0 */
     double value;  /* exact; +0.0 on a refusal */
 } rmk_value_answer;
+
+/* Answer of the slope at a point. */
+typedef struct {
+    uint8_t refusal;
+    size_t offset;   /* on a refusal of the sheet: as the sheet check gives it; else 0 */
+    double slope[4]; /* exact, axis 1 first; +0.0 past the dimension and on a refusal */
+} rmk_slope_answer;
 
 /** Code check: is a byte string the code of a cell?
  * \param [in] code     The byte string: dimension; depth D; d signed axes (plus 128 for minus);
@@ -276,6 +283,23 @@ rmk_leaf_answer rmk_leaf_at(const uint8_t *sheet, size_t sheet_length, const uin
  * Example:             the sheet check's 24 bytes at (1024,1024), which is 00 04 00 04: value 20.
  */
 rmk_value_answer rmk_value_at(const uint8_t *sheet, size_t sheet_length, const uint8_t *point,
+                              size_t point_length);
+
+/** Slope at a point: the slope of the grey field in the leaf at the point.
+ * \param [in] sheet    The sheet, as the sheet check takes it. The whole of it is checked at each call.
+ * \param [in] point    d coordinates, each from 0 to 4096: 2 d bytes.
+ * \return              The refusal, its offset, and on each axis the slope of the only linear function
+ *                      through the leaf's samples, sample i at vertex i. With s the side of the leaf's box,
+ *                      there are whole numbers n1 .. nd such that for any two vertices u and v of the leaf,
+ *                      s times (sample of u - sample of v) is the sum over the axes a of na times (ua - va).
+ *                      The slope on axis a is na divided by s. A binary64 holds it exactly; zero is +0.0.
+ *
+ * Refusals, in order:  those of the sheet check, with its offset; RMK_REFUSED_POINT.
+ * Assumed:             each pointer is non-null and valid for its length.
+ * Example:             the sheet check's 24 bytes at (1024,512), which is 00 04 00 02: slopes 10/4096 and
+ *                      30/4096, which is 0.00244140625, 0.00732421875, 0, 0.
+ */
+rmk_slope_answer rmk_slope_at(const uint8_t *sheet, size_t sheet_length, const uint8_t *point,
                               size_t point_length);
 
 /* Refusals in words. These two are plain C and in no archive: it has the proved entries and no more. */
