@@ -18,6 +18,7 @@
 #define SHEET_BYTES 38000000 /* room for 1,000,000 records of at most 38 bytes */
 #define POINTS 16             /* that a round of queries asks for */
 #define QUERY_LEAVES 10000
+#define SMALL_LEAVES 100
 
 /* The answer of a crossing that does not say where it landed, as an older library gives it. */
 typedef struct {
@@ -39,6 +40,7 @@ typedef struct {
     rmk_compatible_answer (*compatible)(const uint8_t *, size_t);
     rmk_leaf_answer (*leaf_at)(const uint8_t *, size_t, const uint8_t *, size_t, uint8_t *, size_t);
     rmk_value_answer (*value_at)(const uint8_t *, size_t, const uint8_t *, size_t);
+    rmk_slope_answer (*slope_at)(const uint8_t *, size_t, const uint8_t *, size_t);
     old_crossed (*old_cross)(const uint8_t *, size_t, uint8_t, uint8_t *, size_t);
 } entries;
 
@@ -53,7 +55,8 @@ static old_crossed plain_old_cross(const uint8_t *code, size_t code_length, uint
 static const entries plain = {plain_code_check, plain_path_to_code, plain_code_to_path,
                               plain_vertices,   plain_child,        plain_parent,
                               plain_cross,      plain_sheet_check,  plain_compatible,
-                              plain_leaf_at,    plain_value_at,     plain_old_cross};
+                              plain_leaf_at,    plain_value_at,     plain_slope_at,
+                              plain_old_cross};
 
 /* Plain C that keeps the next cell as a code: the sheet check alone. */
 static const entries by_next = {.sheet_check = plain_sheet_by_next};
@@ -74,9 +77,13 @@ static const entries by_next = {.sheet_check = plain_sheet_by_next};
 #ifdef NO_VALUE_AT
 #define rmk_value_at NULL
 #endif
+#ifdef NO_SLOPE_AT
+#define rmk_slope_at NULL
+#endif
 static const entries ours = {rmk_code_check, rmk_path_to_code, rmk_code_to_path, rmk_vertices,
                              rmk_child,      rmk_parent,       rmk_cross,        rmk_sheet_check,
-                             rmk_compatible, rmk_leaf_at,      rmk_value_at,     NULL};
+                             rmk_compatible, rmk_leaf_at,      rmk_value_at,     rmk_slope_at,
+                             NULL};
 
 /* The library that RMK_OLD_LIBRARY names; bench/run gives its entries these names. */
 #ifdef OLD_LIBRARY
@@ -99,6 +106,7 @@ static uint8_t sample_roots[CODES][RMK_LONGEST_ROOT], sample_paths[CODES][RMK_LO
 static uint8_t sheet[SHEET_BYTES];
 static size_t sheet_length, sheet_records;
 static uint8_t points[POINTS][2 * RMK_LONGEST_ROOT];
+static size_t turns = 1; /* how often a round of values or slopes asks for all points: more where the sheet is small */
 
 static uint64_t random_below(uint64_t n)
 {
@@ -427,8 +435,26 @@ static uint64_t leaf_at_round(const entries *e)
 static uint64_t value_at_round(const entries *e)
 {
     uint64_t sum = 0;
-    for (size_t n = 0; n < POINTS; n++) /* times the greatest side: whole */
-        sum += (uint64_t)(e->value_at(sheet, sheet_length, points[n], 2u * sheet[2]).value * RMK_CUBE_SIDE);
+    for (size_t n = 0; n < turns * POINTS; n++) /* times the greatest side: whole */
+        sum += (uint64_t)(e->value_at(sheet, sheet_length, points[n % POINTS], 2u * sheet[2]).value * RMK_CUBE_SIDE);
+    return sum;
+}
+
+static uint64_t bits_of(double value)
+{
+    uint64_t bits;
+    memcpy(&bits, &value, sizeof bits);
+    return bits;
+}
+
+/* Each axis has a factor of its own, so that no axis stands for another. */
+static uint64_t slope_at_round(const entries *e)
+{
+    uint64_t sum = 0;
+    for (size_t n = 0; n < turns * POINTS; n++) {
+        rmk_slope_answer at = e->slope_at(sheet, sheet_length, points[n % POINTS], 2u * sheet[2]);
+        sum += bits_of(at.slope[0]) + 3 * bits_of(at.slope[1]) + 5 * bits_of(at.slope[2]) + 7 * bits_of(at.slope[3]);
+    }
     return sum;
 }
 
@@ -599,7 +625,7 @@ static void query_row(const char *name, round_of *round, uint8_t d)
 
 static void query_table(void)
 {
-    if (!ours.leaf_at && !ours.value_at)
+    if (!ours.leaf_at && !ours.value_at && !ours.slope_at)
         return;
     printf("\n| query | leaves | ours, us | plain C, us | ratio | our sheet check, us | ratio |\n"
            "|---|---|---|---|---|---|---|\n");
@@ -608,7 +634,33 @@ static void query_table(void)
             query_row("leaf_at", leaf_at_round, d);
         if (ours.value_at)
             query_row("value_at", value_at_round, d);
+        if (ours.slope_at)
+            query_row("slope_at", slope_at_round, d);
     }
+}
+
+/* One row of the sixth: our slope beside our value, of the same sheet at the same points, for each call. */
+static void slope_row(uint8_t d, size_t leaves)
+{
+    sized_sheet(d, leaves);
+    random_points(d);
+    turns = 1 + QUERY_LEAVES / sheet_records / 10;
+    medians m = measure_both(slope_at_round, value_at_round, &ours, ROUNDS / 10);
+    double calls = (double)(turns * POINTS) * 1e3;
+    turns = 1;
+    printf("| slope_at beside value_at, dimension %u | %zu | %.3f | %.3f | %.2f |\n", d, sheet_records, m.our_time / calls,
+           m.other_time / calls, m.ratio);
+}
+
+static void slope_table(void)
+{
+    if (!ours.slope_at || !ours.value_at)
+        return;
+    printf("\n| query | leaves | slope_at, us | value_at, us | ratio |\n|---|---|---|---|---|\n");
+    slope_row(2, 2);
+    for (uint8_t d = 2; d <= 4; d++)
+        for (size_t leaves = SMALL_LEAVES; leaves <= QUERY_LEAVES; leaves *= 100)
+            slope_row(d, leaves);
 }
 
 /* One row of the last: our crossing beside another way to the same, for each call. */
@@ -693,6 +745,7 @@ int main(int count, char **words)
     compatible_table();
     doubling_table();
     query_table();
+    slope_table();
     landing_table();
     return 0;
 }

@@ -781,14 +781,14 @@ static const uint8_t *record_over(const uint8_t *record, uint64_t place, size_t 
 typedef struct {
     uint8_t refusal;
     size_t offset, number;
-    unsigned d, side, weights[MOST_AXES + 1];
-    const uint8_t *samples;
+    unsigned d, k, side, weights[MOST_AXES + 1];
+    const uint8_t *entries, *samples;
 } leaf;
 
 static leaf leaf_at(const uint8_t *sheet, size_t sheet_length, const uint8_t *bytes, size_t length)
 {
     rmk_sheet_answer checked = plain_sheet_by_next(sheet, sheet_length);
-    leaf found = {checked.refusal, checked.offset, 0, 0, 0, {0}, sheet};
+    leaf found = {checked.refusal, checked.offset, 0, 0, 0, 0, {0}, sheet, sheet};
     unsigned point[MOST_AXES] = {0};
     if (found.refusal)
         return found;
@@ -803,8 +803,10 @@ static leaf leaf_at(const uint8_t *sheet, size_t sheet_length, const uint8_t *by
     way_down(point, h.d, h.depth, found.weights);
     for (unsigned i = 0; i <= h.d; i++)
         found.weights[i] >>= h.boxes;
+    found.k = h.k;
     found.side = RMK_CUBE_SIDE >> h.boxes;
-    found.samples = record + MARK + HEAD + h.d + h.boxes;
+    found.entries = record + MARK + HEAD;
+    found.samples = found.entries + h.d + h.boxes;
     return found;
 }
 
@@ -834,5 +836,34 @@ rmk_value_answer plain_value_at(const uint8_t *sheet, size_t sheet_length, const
     for (unsigned i = 0; i <= found.d; i++)
         sum += found.weights[i] * two_bytes(found.samples + 2 * i);
     answer.value = (double)sum / found.side;
+    return answer;
+}
+
+static int sample_at(const leaf *found, unsigned vertex) { return (int)two_bytes(found->samples + 2 * vertex); }
+
+/* How much the samples rise along entry j, over the side of the box. Up to place k a vertex stands a side from the one before, past
+ * it half a side; the first of those stands so far from the middle of v0 and vk. */
+static int rise_along(const leaf *found, unsigned j)
+{
+    int here = sample_at(found, j + 1), before = sample_at(found, j);
+    if (j < found->k)
+        return here - before;
+    if (j == found->k)
+        return 2 * here - before - sample_at(found, 0);
+    return 2 * (here - before);
+}
+
+rmk_slope_answer plain_slope_at(const uint8_t *sheet, size_t sheet_length, const uint8_t *point,
+                                size_t point_length)
+{
+    leaf found = leaf_at(sheet, sheet_length, point, point_length);
+    rmk_slope_answer answer = {found.refusal, found.offset, {0}};
+    if (answer.refusal)
+        return answer;
+    for (unsigned j = 0; j < found.d; j++) {
+        uint8_t entry = found.entries[j];
+        int rise = rise_along(&found, j);
+        answer.slope[axis_of(entry) - 1] = (double)(is_minus(entry) ? -rise : rise) / found.side;
+    }
     return answer;
 }

@@ -26,6 +26,8 @@ rmk_leaf_answer plain_leaf_at(const uint8_t *sheet, size_t sheet_length, const u
                               size_t point_length, uint8_t *weights, size_t weights_length);
 rmk_value_answer plain_value_at(const uint8_t *sheet, size_t sheet_length, const uint8_t *point,
                                 size_t point_length);
+rmk_slope_answer plain_slope_at(const uint8_t *sheet, size_t sheet_length, const uint8_t *point,
+                                size_t point_length);
 
 /* The sheet check once more, by another way: the next cell is kept as a code, and each record compared with it. */
 rmk_sheet_answer plain_sheet_by_next(const uint8_t *sheet, size_t sheet_length);
