@@ -67,6 +67,28 @@ impl PartialEq for ValueAnswer {
     }
 }
 
+/// Slope is +0.0 on the axes that the dimension lacks, and all +0.0 on a refusal. Equal bit for bit too.
+#[repr(C)]
+#[derive(Clone, Copy, Debug)]
+pub struct SlopeAnswer {
+    pub refusal: u8,
+    pub offset: usize,
+    pub slope: [f64; 4],
+}
+
+impl SlopeAnswer {
+    pub fn bits(&self) -> [u64; 4] {
+        self.slope.map(f64::to_bits)
+    }
+}
+
+impl PartialEq for SlopeAnswer {
+    fn eq(&self, other: &SlopeAnswer) -> bool {
+        let parts = |answer: &SlopeAnswer| (answer.refusal, answer.offset, answer.bits());
+        parts(self) == parts(other)
+    }
+}
+
 impl Written {
     pub fn refused(refusal: u8) -> Written {
         Written { refusal, length: 0 }
@@ -100,5 +122,11 @@ impl LeafAnswer {
 impl ValueAnswer {
     pub fn refused(refusal: u8, offset: usize) -> ValueAnswer {
         ValueAnswer { refusal, offset, value: f64::from_bits(0) }
+    }
+}
+
+impl SlopeAnswer {
+    pub fn refused(refusal: u8, offset: usize) -> SlopeAnswer {
+        SlopeAnswer { refusal, offset, slope: [f64::from_bits(0); 4] }
     }
 }

@@ -4,8 +4,9 @@
 use crate::bisection::Point;
 use crate::sizes::MOST_AXES;
 
-/// One equation: factors of the unknown weights, then factors of the point's coordinates and of 1.
-type Row = Vec<i128>;
+/// One equation: factors of the unknowns, here weights, then those of what stands on the right side, here a
+/// point's coordinates and 1.
+pub type Row = Vec<i128>;
 
 /// A whole number for any point: a factor for each coordinate and one for 1, over a number above 0.
 struct Form {
@@ -67,7 +68,7 @@ fn equations(points: &[Point], d: usize) -> Vec<Row> {
 }
 
 /// Leaves the unknown of a place in the row of that place alone.
-fn eliminate(rows: &mut [Row], place: usize) {
+pub fn eliminate(rows: &mut [Row], place: usize) {
     let with = (place..rows.len()).find(|r| rows[*r][place] != 0);
     rows.swap(place, with.expect("a point is a sum of the others"));
     let pivot = rows[place].clone();

@@ -18,9 +18,10 @@ pub mod lent; // lent outputs and the comparison of outcomes
 pub mod listing; // "The listing program": the text of a sheet
 pub mod mending; // compatible sheets, as leaves of forests that are mended
 pub mod points; // points in, on and around cells
-pub mod queries; // "Sheets": the leaf and the grey value at a point
+pub mod queries; // "Sheets": the leaf, the grey value and the slope at a point
 pub mod random; // a repeatable source of numbers
 pub mod sheets; // "Sheets": records, and the forest that they are the leaves of
 pub mod sizes; // sizes and refusal numbers
+pub mod slopes; // the slope of the grey field in a cell, by elimination
 pub mod weighing; // "Sheets": a point's weights in a cell; fractions as binary64
 pub mod worked; // the cells worked by hand

@@ -1,16 +1,19 @@
-//! Document 01, "Sheets": the leaf and the grey value at a point. All leaves are tried in tree order, and
-//! the first whose closed cell has the point is the one.
+//! Document 01, "Sheets": the leaf and the grey value at a point; and the slope there. All leaves are tried in
+//! tree order, and the first whose closed cell has the point is the one.
 
-use crate::answers::{LeafAnswer, ValueAnswer};
+use crate::answers::{LeafAnswer, SlopeAnswer, ValueAnswer};
 use crate::bisection::Point;
 use crate::sheets::{Refused, Sampled, Sheets};
 use crate::sizes::*;
-use crate::weighing::{binary64, Weighing};
+use crate::slopes::slope;
+use crate::weighing::{binary64, signed64, Weighing};
+use std::cell::OnceCell;
 
-/// A leaf that points are weighed in, and its samples.
+/// A leaf that points are weighed in, and its samples. Its slope is found when a point is first met in it.
 struct Leaf {
     weighing: Weighing,
     samples: Vec<u16>,
+    slope: OnceCell<Vec<i128>>,
 }
 
 /// A sheet's leaves or its refusal: read once, asked for many points.
@@ -18,21 +21,32 @@ pub struct Asked {
     leaves: Result<Vec<Leaf>, Refused>,
 }
 
-/// The leaf at a point: its number, the point's weights there, and the weighted samples with s.
+/// The leaf at a point: its number, the point's weights there, and the weighted samples and the slope with s.
 pub struct AtPoint {
     number: usize,
     weights: Vec<i128>,
     samples: i128,
+    slope: Vec<i128>,
     side: i128,
 }
 
-/// What both queries answer from.
+/// What all queries answer from.
 pub type Finding = Result<AtPoint, Refused>;
+
+impl Leaf {
+    fn new(Sampled { cell, samples }: Sampled) -> Leaf {
+        Leaf { weighing: Weighing::new(cell), samples, slope: OnceCell::new() }
+    }
+
+    fn slope(&self) -> &Vec<i128> {
+        let found = || slope(self.weighing.vertices(), &self.samples, self.weighing.side());
+        self.slope.get_or_init(found)
+    }
+}
 
 impl Asked {
     pub fn new(sheets: &Sheets, sheet: &[u8]) -> Asked {
-        let weighed = |Sampled { cell, samples }| Leaf { weighing: Weighing::new(cell), samples };
-        let leaves = sheets.leaves(sheet).map(|leaves| leaves.into_iter().map(weighed).collect());
+        let leaves = sheets.leaves(sheet).map(|leaves| leaves.into_iter().map(Leaf::new).collect());
         Asked { leaves }
     }
 
@@ -47,7 +61,8 @@ impl Asked {
         let leaf = &leaves[number];
         let samples =
             weights.iter().zip(&leaf.samples).map(|(w, sample)| w * *sample as i128).sum();
-        Ok(AtPoint { number, weights, samples, side: leaf.weighing.side() })
+        let (slope, side) = (leaf.slope().clone(), leaf.weighing.side());
+        Ok(AtPoint { number, weights, samples, slope, side })
     }
 }
 
@@ -81,6 +96,16 @@ pub fn value_at(finding: &Finding) -> ValueAnswer {
         Ok(found) => {
             let value = binary64(found.samples as u128, found.side as u128);
             ValueAnswer { refusal: DONE, offset: 0, value }
+        }
+    }
+}
+
+pub fn slope_at(finding: &Finding) -> SlopeAnswer {
+    match finding {
+        Err((refusal, offset)) => SlopeAnswer::refused(*refusal, *offset),
+        Ok(found) => {
+            let on_axis = |a| signed64(found.slope.get(a).copied().unwrap_or(0), found.side);
+            SlopeAnswer { refusal: DONE, offset: 0, slope: std::array::from_fn(on_axis) }
         }
     }
 }

@@ -21,6 +21,10 @@ impl Weighing {
         (CUBE_SIDE >> (self.cell.depth / self.cell.dimension())) as i128
     }
 
+    pub fn vertices(&self) -> &[Point] {
+        &self.cell.vertices
+    }
+
     /// The weights in vertex order, or none if the closed cell has not the point.
     pub fn weights(&self, point: &Point) -> Option<Vec<i128>> {
         let weight = |(above, over): (i128, i128)| {
@@ -68,4 +72,14 @@ pub fn binary64(above: u128, below: u128) -> f64 {
     }
     assert_eq!(rest, 0, "a value is not a binary64");
     f64::from_bits(((exponent + BIAS) as u64) << DIGITS | digits)
+}
+
+/// The same with a sign. Zero is +0.0.
+pub fn signed64(above: i128, below: i128) -> f64 {
+    let size = binary64(above.unsigned_abs(), below as u128);
+    if above < 0 {
+        -size
+    } else {
+        size
+    }
 }

@@ -1,14 +1,14 @@
 //! Document 01, "Cells worked by hand", copied from the document. The second program is held to them
 //! before anything is compared with it.
 
-use crate::answers::{Crossed, LeafAnswer, SheetAnswer, ValueAnswer};
+use crate::answers::{Crossed, LeafAnswer, SheetAnswer, SlopeAnswer, ValueAnswer};
 use crate::bisection::Cell;
 use crate::codes::Code;
 use crate::crossing;
 use crate::entries;
 use crate::finder::{Finder, Found};
 use crate::inputs::{good_path, good_root};
-use crate::queries::{leaf_at, value_at, Asked};
+use crate::queries::{leaf_at, slope_at, value_at, Asked};
 use crate::random::Random;
 use crate::sheets::Sheets;
 use crate::sizes::*;
@@ -113,7 +113,8 @@ fn sheets(finder: &Finder) {
     assert_eq!(sheets.check(&[]), early(0));
 }
 
-/// P10: record 0, weights 3072, 0, 1024, value 20. Coordinate 4096 is good, 4097 is refusal 12.
+/// P10: record 0, weights 3072, 0, 1024, value 20. Coordinate 4096 is good, 4097 is refusal 12. At (1024,512)
+/// the slopes are 10/4096 and 30/4096.
 fn queries(finder: &Finder) {
     let asked = Asked::new(&Sheets::new(finder), &SHEET);
     let (found, mut weights) = (asked.find(&[0, 4, 0, 4]), [0; 6]);
@@ -123,6 +124,10 @@ fn queries(finder: &Finder) {
     assert_eq!(value_at(&found), ValueAnswer { refusal: DONE, offset: 0, value: 20.0 });
     assert_eq!(value_at(&asked.find(&[0, 16, 0, 16])).refusal, DONE);
     assert_eq!(value_at(&asked.find(&[1, 16, 0, 0])), ValueAnswer::refused(REFUSED_POINT, 0));
+    let slope = [10.0 / 4096.0, 30.0 / 4096.0, 0.0, 0.0];
+    let sloped = SlopeAnswer { refusal: DONE, offset: 0, slope };
+    assert_eq!(slope_at(&asked.find(&[0, 4, 0, 2])), sloped);
+    assert_eq!(slope_at(&asked.find(&[1, 16, 0, 0])), SlopeAnswer::refused(REFUSED_POINT, 0));
 }
 
 /// Not worked by hand, but said of every cell: for j up to k, vj minus v(j-1) is plus or minus s on the

@@ -1,6 +1,6 @@
-//! Compares the library's leaf and grey value at a point with the second program.
+//! Compares the library's leaf, grey value and slope at a point with the second program.
 
-use second::answers::{LeafAnswer, ValueAnswer};
+use second::answers::{LeafAnswer, SlopeAnswer, ValueAnswer};
 use second::bisection::{Cell, Point};
 use second::finder::Finder;
 use second::forests::{
@@ -16,13 +16,14 @@ use second::sizes::*;
 use second::worked;
 
 mod library {
-    use super::{LeafAnswer, ValueAnswer};
+    use super::{LeafAnswer, SlopeAnswer, ValueAnswer};
 
     type In = *const u8;
 
     extern "C" {
         fn rmk_leaf_at(s: In, sn: usize, p: In, pn: usize, w: *mut u8, wn: usize) -> LeafAnswer;
         fn rmk_value_at(s: In, sn: usize, p: In, pn: usize) -> ValueAnswer;
+        fn rmk_slope_at(s: In, sn: usize, p: In, pn: usize) -> SlopeAnswer;
     }
 
     pub fn leaf_at(s: &[u8], p: &[u8], w: &mut [u8]) -> LeafAnswer {
@@ -33,6 +34,10 @@ mod library {
     pub fn value_at(s: &[u8], p: &[u8]) -> ValueAnswer {
         unsafe { rmk_value_at(s.as_ptr(), s.len(), p.as_ptr(), p.len()) }
     }
+
+    pub fn slope_at(s: &[u8], p: &[u8]) -> SlopeAnswer {
+        unsafe { rmk_slope_at(s.as_ptr(), s.len(), p.as_ptr(), p.len()) }
+    }
 }
 
 /// How far past the weights lent outputs go, and points asked for in one random sheet.
@@ -41,6 +46,10 @@ const POINTS: usize = 100;
 
 /// The least number that two bytes do not hold.
 const FAR: usize = 65_536;
+
+/// What a slope on an axis can be, and what is called steep: no slope is twice so much.
+const SLOPES: [&str; 4] = ["below 0", "zero", "above 0", "steep"];
+const STEEP: f64 = 32_768.0;
 
 /// A sheet's bytes, and what the second program read in them. A refused one has any dimension.
 struct Sheet {
@@ -53,6 +62,7 @@ struct Comparison<'a> {
     sheets: Sheets<'a>,
     random: Random,
     tally: Tally,
+    slopes: [usize; SLOPES.len()],
 }
 
 impl Comparison<'_> {
@@ -60,7 +70,7 @@ impl Comparison<'_> {
         Sheet { asked: Asked::new(&self.sheets, &bytes), bytes, d }
     }
 
-    /// Both entries at one point, the leaf with an output of the length given.
+    /// All entries at one point, the leaf with an output of the length given.
     fn lending(&mut self, sheet: &Sheet, point: &[u8], length: usize) {
         let (found, s) = (sheet.asked.find(point), &sheet.bytes[..]);
         let lent = Lent::new(&mut self.random, length);
@@ -70,6 +80,25 @@ impl Comparison<'_> {
         let second = |_: &mut [Lent; 0]| queries::value_at(&found);
         let library = |_: &mut [Lent; 0]| library::value_at(s, point);
         self.tally.compare("value_at", &[s, point], [], second, library);
+        let slope = queries::slope_at(&found);
+        let library = |_: &mut [Lent; 0]| library::slope_at(s, point);
+        self.tally.compare("slope_at", &[s, point], [], |_| slope, library);
+        self.count_slopes(&slope, sheet.d);
+    }
+
+    fn count_slopes(&mut self, answer: &SlopeAnswer, d: usize) {
+        for slope in answer.slope[..d].iter().filter(|_| answer.refusal == DONE) {
+            let kinds = [*slope < 0.0, *slope == 0.0, *slope > 0.0, slope.abs() >= STEEP];
+            self.slopes.iter_mut().zip(kinds).for_each(|(count, is)| *count += is as usize);
+        }
+    }
+
+    /// Fails where a kind of slope was not met.
+    fn hold_slopes(&self) {
+        let told = |(kind, count): (&str, usize)| format!("{count} {kind}");
+        let rows: Vec<String> = SLOPES.into_iter().zip(self.slopes).map(told).collect();
+        println!("queries: slopes on an axis: {}", rows.join(", "));
+        assert!(self.slopes.iter().all(|count| *count > 0), "a kind of slope is not met");
     }
 
     /// With room as a rule.
@@ -106,12 +135,16 @@ impl Comparison<'_> {
         self.lending(sheet, &[&[255, 255], &point[2..]].concat(), 0);
     }
 
-    /// Samples at their ends in three sheets of eight: all zero, all the greatest, or either in each leaf.
+    /// Samples at their ends in half of the sheets: all zero, all the greatest, or either in each leaf or at
+    /// each vertex.
     fn flattened(&mut self, leaves: &mut [Leaf]) {
-        let values = self.random.one_of(&[&[][..], &[], &[], &[], &[], &[0], &[255], &[0, 255]]);
+        let ends: [&[u8]; 8] = [&[], &[], &[], &[], &[0], &[255], &[0, 255], &[0, 255]];
+        let (values, each_vertex) = (self.random.one_of(&ends), self.random.once_in(2));
         for leaf in leaves.iter_mut().filter(|_| !values.is_empty()) {
-            let from = leaf.record.len() - samples_length(leaf.cell.root.len());
-            leaf.record[from..].fill(self.random.one_of(values));
+            let all = samples_length(leaf.cell.root.len());
+            let (from, alike) = (leaf.record.len() - all, if each_vertex { 2 } else { all });
+            let parts = leaf.record[from..].chunks_mut(alike);
+            parts.for_each(|part| part.fill(self.random.one_of(values)));
         }
     }
 
@@ -209,13 +242,14 @@ fn cells(leaves: &[Leaf]) -> Vec<Cell> {
 }
 
 fn main() {
-    let options = Options::read(100_000);
+    let options = Options::read(120_000);
     let finder = Finder::new();
     worked::check(&finder);
     let (sheets, random) = (Sheets::new(&finder), Random::new(options.seed));
-    let tally = Tally::new("queries", &["leaf_at", "value_at"]);
-    let mut comparison = Comparison { sheets, random, tally };
+    let tally = Tally::new("queries", &["leaf_at", "value_at", "slope_at"]);
+    let mut comparison = Comparison { sheets, random, tally, slopes: [0; SLOPES.len()] };
     comparison.fixed();
     comparison.random(options.count);
+    comparison.hold_slopes();
     comparison.tally.close();
 }
