@@ -1,4 +1,4 @@
-//! Every entry behind one form of call, so that each part of the hard use reaches all eleven alike.
+//! Every entry behind one form of call, so that each part of the hard use reaches all twelve alike.
 
 use second::answers::*;
 
@@ -14,13 +14,14 @@ pub enum Entry {
     SheetCheck,
     LeafAt,
     ValueAt,
+    SlopeAt,
     Compatible,
 }
 
 use Entry::*;
 
 /// In the order of the numbers that they stand for, with their names in the header.
-pub const ENTRIES: [(Entry, &str); 11] = [
+pub const ENTRIES: [(Entry, &str); 12] = [
     (CodeCheck, "rmk_code_check"),
     (PathToCode, "rmk_path_to_code"),
     (CodeToPath, "rmk_code_to_path"),
@@ -31,6 +32,7 @@ pub const ENTRIES: [(Entry, &str); 11] = [
     (SheetCheck, "rmk_sheet_check"),
     (LeafAt, "rmk_leaf_at"),
     (ValueAt, "rmk_value_at"),
+    (SlopeAt, "rmk_slope_at"),
     (Compatible, "rmk_compatible"),
 ];
 
@@ -44,13 +46,14 @@ pub struct Given<'a> {
     pub which: u8,
 }
 
-/// The answer of any entry. A value stands among the numbers bit for bit. A vertex comes of a crossing alone.
+/// The answer of any entry. A value stands among the numbers bit for bit. What an answer has for each axis is a
+/// crossing's new vertex or a slope, that one bit for bit too.
 #[derive(Clone, Copy, PartialEq, Debug)]
 pub struct Answer {
     pub refusal: u8,
     pub offset: usize,
     pub numbers: [u64; 2],
-    pub vertex: [u16; 4],
+    pub axes: [u64; 4],
 }
 
 impl Entry {
@@ -59,13 +62,13 @@ impl Entry {
     }
 
     pub fn reads_a_sheet(self) -> bool {
-        matches!(self, SheetCheck | LeafAt | ValueAt | Compatible)
+        matches!(self, SheetCheck | LeafAt | ValueAt | SlopeAt | Compatible)
     }
 
     /// How many outputs are lent to it.
     pub fn outputs(self) -> usize {
         match self {
-            CodeCheck | SheetCheck | ValueAt | Compatible => 0,
+            CodeCheck | SheetCheck | ValueAt | SlopeAt | Compatible => 0,
             CodeToPath => 2,
             _ => 1,
         }
@@ -74,7 +77,7 @@ impl Entry {
 
 impl Answer {
     fn new(refusal: u8, offset: usize, numbers: [u64; 2]) -> Answer {
-        Answer { refusal, offset, numbers, vertex: [0; 4] }
+        Answer { refusal, offset, numbers, axes: [0; 4] }
     }
 
     /// Bytes that the entry says it wrote to each output.
@@ -109,7 +112,7 @@ impl From<PathWritten> for Answer {
 impl From<Crossed> for Answer {
     fn from(a: Crossed) -> Answer {
         let answer = Answer::new(a.refusal, 0, [a.length as u64, a.place as u64]);
-        Answer { vertex: a.vertex, ..answer }
+        Answer { axes: a.vertex.map(u64::from), ..answer }
     }
 }
 
@@ -131,6 +134,12 @@ impl From<ValueAnswer> for Answer {
     }
 }
 
+impl From<SlopeAnswer> for Answer {
+    fn from(a: SlopeAnswer) -> Answer {
+        Answer { axes: a.bits(), ..Answer::new(a.refusal, a.offset, [0, 0]) }
+    }
+}
+
 impl From<CompatibleAnswer> for Answer {
     fn from(a: CompatibleAnswer) -> Answer {
         Answer::new(a.refusal, a.offset, [a.compatible as u64, 0])
@@ -147,7 +156,7 @@ pub fn told(given: &Given, lent: [usize; 2]) -> String {
 /// A function that calls C entries of the names given, in the header's order of arguments.
 macro_rules! c_entries {
     ($name:ident: $check:ident $to_code:ident $to_path:ident $vertices:ident $child:ident $parent:ident
-     $cross:ident $sheet:ident $leaf:ident $value:ident $compatible:ident) => {
+     $cross:ident $sheet:ident $leaf:ident $value:ident $slope:ident $compatible:ident) => {
         #[inline]
         pub fn $name(given: &Given, out: &mut [u8], other: &mut [u8]) -> Answer {
             type In = *const u8;
@@ -163,6 +172,7 @@ macro_rules! c_entries {
                 fn $sheet(s: In, n: usize) -> SheetAnswer;
                 fn $leaf(s: In, sn: usize, p: In, pn: usize, w: Out, wn: usize) -> LeafAnswer;
                 fn $value(s: In, sn: usize, p: In, pn: usize) -> ValueAnswer;
+                fn $slope(s: In, sn: usize, p: In, pn: usize) -> SlopeAnswer;
                 fn $compatible(s: In, n: usize) -> CompatibleAnswer;
             }
             let (a, an) = (given.one.as_ptr(), given.one.len());
@@ -182,6 +192,7 @@ macro_rules! c_entries {
                     Entry::SheetCheck => $sheet(a, an).into(),
                     Entry::LeafAt => $leaf(a, an, b, bn, o, on).into(),
                     Entry::ValueAt => $value(a, an, b, bn).into(),
+                    Entry::SlopeAt => $slope(a, an, b, bn).into(),
                     Entry::Compatible => $compatible(a, an).into(),
                 }
             }
@@ -192,4 +203,4 @@ macro_rules! c_entries {
 pub(crate) use c_entries;
 
 c_entries!(library: rmk_code_check rmk_path_to_code rmk_code_to_path rmk_vertices rmk_child rmk_parent
-           rmk_cross rmk_sheet_check rmk_leaf_at rmk_value_at rmk_compatible);
+           rmk_cross rmk_sheet_check rmk_leaf_at rmk_value_at rmk_slope_at rmk_compatible);

@@ -206,6 +206,7 @@ impl<P: Places> Edges<'_, P> {
         self.both(&given, [lent, 0]);
         if lent == 0 {
             self.both(&Given { entry: Entry::ValueAt, ..given }, [0, 0]);
+            self.both(&Given { entry: Entry::SlopeAt, ..given }, [0, 0]);
         }
     }
 

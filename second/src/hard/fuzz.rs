@@ -17,7 +17,8 @@ use second::random::Random;
 use std::ffi::c_int;
 
 c_entries!(plain: plain_code_check plain_path_to_code plain_code_to_path plain_vertices plain_child
-           plain_parent plain_cross plain_sheet_check plain_leaf_at plain_value_at plain_compatible);
+           plain_parent plain_cross plain_sheet_check plain_leaf_at plain_value_at plain_slope_at
+           plain_compatible);
 
 struct Fuzzed {
     entry: Entry,
@@ -60,7 +61,8 @@ pub extern "C" fn LLVMFuzzerTestOneInput(data: *const u8, size: usize) -> c_int 
     let lent = if entry.outputs() == 0 { 0 } else { shape.lent };
     fuzzed.one(&given, lent);
     if entry == Entry::ValueAt {
-        // The leaf query has the same input, and an output besides.
+        // The other queries have the same input, the leaf's an output besides.
+        fuzzed.one(&Given { entry: Entry::SlopeAt, ..given }, 0);
         fuzzed.one(&Given { entry: Entry::LeafAt, ..given }, shape.lent);
     }
     0

@@ -6,7 +6,7 @@ use second::compatible::compatible;
 use second::entries::{self, Reading};
 use second::finder::Finder;
 use second::queries::{self, Asked};
-use second::sheets::Sheets;
+use second::sheets::{Sheets, MARK};
 use second::{crossing, sizes::*};
 
 /// What was read last is kept: an input is mostly asked for many times, with other outputs or points.
@@ -85,6 +85,7 @@ impl Judge {
                 let found = self.asked.of(sheet, || Asked::new(sheets, sheet)).find(given.two);
                 match entry {
                     Entry::LeafAt => queries::leaf_at(&found, out).into(),
+                    Entry::SlopeAt => queries::slope_at(&found).into(),
                     _ => queries::value_at(&found).into(),
                 }
             }
@@ -132,29 +133,42 @@ fn refusals(entry: Entry) -> u16 {
         Entry::Cross => OF_CODE | bits(&[REFUSED_STEP, REFUSED_FACE, REFUSED_SHORT]),
         Entry::SheetCheck | Entry::Compatible => OF_SHEET,
         Entry::LeafAt => OF_SHEET | bits(&[REFUSED_POINT, REFUSED_SHORT]),
-        Entry::ValueAt => OF_SHEET | bits(&[REFUSED_POINT]),
+        Entry::ValueAt | Entry::SlopeAt => OF_SHEET | bits(&[REFUSED_POINT]),
     }
 }
 
 /// What the header says of every answer, whatever the input: a refusal is one of the entry's own, its other
 /// numbers are zero, its offset lies in the sheet; no more is written than was lent; and a vertex lies in the
-/// cube, with zeros on the axes that the code's dimension lacks.
+/// cube, a slope is whole over the cube's side, each with zeros on the axes that the dimension lacks.
 #[inline]
 pub fn keeps_contract(given: &Given, answer: &Answer, lent: [usize; 2]) -> bool {
     let refusal = answer.refusal;
     if refusal == DONE {
         let written = answer.written(given.entry);
         let fits = answer.offset == 0 && written[0] <= lent[0] && written[1] <= lent[1];
-        return fits && (given.entry != Entry::Cross || is_vertex(&answer.vertex, given.one));
+        return fits && keeps_axes(given, answer);
     }
     let in_sheet = given.entry.reads_a_sheet() && OF_SHEET >> refusal & 1 == 1;
     let offset = answer.offset == 0 || (in_sheet && answer.offset <= given.one.len());
-    let zeros = answer.numbers == [0, 0] && answer.vertex == [0; MOST_AXES];
+    let zeros = answer.numbers == [0, 0] && answer.axes == [0; MOST_AXES];
     refusal < 16 && refusals(given.entry) >> refusal & 1 == 1 && zeros && offset
 }
 
-fn is_vertex(vertex: &[u16; MOST_AXES], code: &[u8]) -> bool {
-    let d = code.first().map_or(0, |d| *d as usize);
-    let most = |a: usize| if a < d { CUBE_SIDE } else { 0 };
-    vertex.iter().enumerate().all(|(a, x)| *x as u32 <= most(a))
+#[inline]
+fn keeps_axes(given: &Given, answer: &Answer) -> bool {
+    let (dimension, holds): (_, fn(u64) -> bool) = match given.entry {
+        Entry::Cross => (given.one.first(), |x| x <= CUBE_SIDE as u64),
+        Entry::SlopeAt => (given.one.get(MARK.len()), is_slope),
+        _ => return true,
+    };
+    let d = dimension.map_or(0, |d| *d as usize);
+    answer.axes.iter().enumerate().all(|(a, x)| if a < d { holds(*x) } else { *x == 0 })
+}
+
+/// What is whole over the side of a box is so over the cube's. The deepest boxes, of side 1, have no vertex half
+/// a side away, so that no slope is steeper than the greatest sample. Zero is +0.0.
+fn is_slope(bits: u64) -> bool {
+    let slope = f64::from_bits(bits);
+    let whole = (slope * CUBE_SIDE as f64).fract() == 0.0;
+    whole && slope.abs() <= u16::MAX as f64 && bits != (-0.0f64).to_bits()
 }

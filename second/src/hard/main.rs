@@ -78,7 +78,7 @@ fn edges<P: Places>(options: &Options, places: P, part: usize, longest: usize, n
 fn turn(options: &Options) {
     let mut judge = Judge::new();
     let mut turn = Turn::new(&mut judge, Random::new(options.seed));
-    // Five calls in a thousand or so are of sheets: a round has eight or nine, at least two of each entry.
+    // Six calls in a thousand or so are of sheets: a round has ten or eleven, at least two of each entry.
     turn.all_sheets(options.calls / 1_900 + 1);
     let left = options.calls.saturating_sub(turn.made);
     turn.codes(left);
@@ -91,7 +91,7 @@ fn turn(options: &Options) {
 
 fn threads(options: &Options) {
     let mut random = Random::new(options.seed);
-    match threads::run(&mut random, 1100, options.rounds as usize) {
+    match threads::run(&mut random, 100 * ENTRIES.len(), options.rounds as usize) {
         Ok(calls) => {
             println!("threads: {} calls from four at once, as from one", grouped(calls as u64))
         }

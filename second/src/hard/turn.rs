@@ -1,6 +1,6 @@
 //! Very many calls, each judged by what costs little: the contract's own words for any answer, the cells past
-//! the answer, entries that undo each other, the bisection of a cell's points, weights that give the point.
-//! One call in so many is judged by the second program too.
+//! the answer, entries that undo each other, the bisection of a cell's points, weights that give the point, a
+//! slope that leads from sample to sample. One call in so many is judged by the second program too.
 
 use crate::calls::{library, told, Answer, Entry, Given, ENTRIES};
 use crate::judge::{keeps_contract, Judge};
@@ -148,11 +148,11 @@ impl<'a> Turn<'a> {
         if !share_but_one(points, facet, &others, place, d) {
             fail(&given, [ROOM, 0], "the cell across has not the facet's vertices");
         }
-        if answer.vertex != coordinates(&others, place, d) {
-            fail(&given, [ROOM, 0], &format!("the new vertex is not at {:?}", answer.vertex));
+        if answer.axes != coordinates(&others, place, d) {
+            fail(&given, [ROOM, 0], &format!("the new vertex is not at {:?}", answer.axes));
         }
-        if back.vertex != coordinates(points, facet, d) {
-            fail(&given, [ROOM, 0], &format!("crossing back does not land at {:?}", back.vertex));
+        if back.axes != coordinates(points, facet, d) {
+            fail(&given, [ROOM, 0], &format!("crossing back does not land at {:?}", back.axes));
         }
         Some(beyond)
     }
@@ -286,50 +286,46 @@ impl<'a> Turn<'a> {
         let (check, _) = self.roomy(&alone(Entry::SheetCheck));
         let (leaf, weights) = self.roomy(&given(Entry::LeafAt));
         let (value, _) = self.roomy(&given(Entry::ValueAt));
+        let (slope, _) = self.roomy(&given(Entry::SlopeAt));
         let (compatible, _) = self.roomy(&alone(Entry::Compatible));
         let refused = |a: &Answer| (a.refusal, a.offset);
-        let apart =
-            check.refusal != DONE && [leaf, value].iter().any(|a| refused(a) != refused(&check));
-        if apart || refused(&compatible) != refused(&check) {
+        let apart = [value, slope].iter().any(|a| refused(a) != refused(&leaf));
+        let unlike = check.refusal != DONE && refused(&leaf) != refused(&check);
+        if apart || unlike || refused(&compatible) != refused(&check) {
             fail(&given(Entry::LeafAt), [ROOM, 0], "entries of one sheet refuse otherwise");
         }
         if leaf.refusal == DONE {
-            self.weighed(&given(Entry::LeafAt), &check, &leaf, &weights, &value);
+            let given = given(Entry::LeafAt);
+            let found = self.leaf(&given, &check, &leaf);
+            if !found.has_weights(&weights, point, &value) || !found.has_slope(&slope) {
+                fail(&given, [ROOM, 0], "weights, value or slope are not the point's");
+            }
         }
-        let again = [alone(Entry::SheetCheck), given(Entry::ValueAt), alone(Entry::Compatible)];
-        for (given, first) in again.iter().zip([check, value, compatible]) {
-            if self.roomy(given).0 != first {
-                fail(given, [0, 0], "a second call answers otherwise");
+        let again = [
+            (alone(Entry::SheetCheck), check),
+            (given(Entry::ValueAt), value),
+            (given(Entry::SlopeAt), slope),
+            (alone(Entry::Compatible), compatible),
+        ];
+        for (given, first) in again {
+            if self.roomy(&given).0 != first {
+                fail(&given, [0, 0], "a second call answers otherwise");
             }
         }
         self.tight(&given(Entry::LeafAt), &leaf);
     }
 
-    /// The weights give the point in the leaf of the record's number, and the value with its samples.
-    fn weighed(
-        &mut self,
-        given: &Given,
-        check: &Answer,
-        leaf: &Answer,
-        weights: &Bytes,
-        value: &Answer,
-    ) {
-        let number = leaf.numbers[1];
-        if value.refusal != DONE || number >= check.numbers[0] {
-            fail(given, [ROOM, 0], "a leaf with no value, or no record of the sheet");
+    /// The leaf that a leaf query found.
+    fn leaf(&mut self, given: &Given, check: &Answer, found: &Answer) -> Leaf {
+        let number = found.numbers[1];
+        if number >= check.numbers[0] {
+            fail(given, [ROOM, 0], "no record of the sheet");
         }
         let (code, samples) = sheets::record(given.one, number as usize);
         let (d, boxes) = (code[0] as usize, code[1] as usize / code[0] as usize);
         let (_, points) = self.roomy(&of_code(Entry::Vertices, code, 0));
-        let (side, weights) = ((CUBE_SIDE >> boxes) as u64, two_bytes(weights.get()));
-        let (points, point) = (two_bytes(points.get()), two_bytes(given.two));
-        let along = |a: usize| (0..=d).map(|i| weights[i] * points[i * d + a]).sum::<u64>();
-        let there = (0..d).all(|a| along(a) == side * point[a]);
-        let grey: u64 = weights.iter().zip(two_bytes(samples)).map(|(w, sample)| w * sample).sum();
-        let exact = (grey as f64 / side as f64).to_bits() == value.numbers[0];
-        if !there || weights.iter().sum::<u64>() != side || !exact {
-            fail(given, [ROOM, 0], "weights or value are not the point's");
-        }
+        let (points, samples) = (two_bytes(points.get()), two_bytes(samples));
+        Leaf { d, side: (CUBE_SIDE >> boxes) as u64, points, samples }
     }
 
     pub fn all_sheets(&mut self, rounds: u64) {
@@ -355,6 +351,34 @@ impl<'a> Turn<'a> {
     }
 }
 
+/// A leaf's points and samples in vertex order, and the side of its box.
+struct Leaf {
+    d: usize,
+    side: u64,
+    points: Vec<u64>,
+    samples: Vec<u64>,
+}
+
+impl Leaf {
+    /// The weights give the point, and the value with the samples.
+    fn has_weights(&self, weights: &Bytes, point: &[u8], value: &Answer) -> bool {
+        let (weights, point, d) = (two_bytes(weights.get()), two_bytes(point), self.d);
+        let along = |a: usize| (0..=d).map(|i| weights[i] * self.points[i * d + a]).sum::<u64>();
+        let there = (0..d).all(|a| along(a) == self.side * point[a]);
+        let grey: u64 = weights.iter().zip(&self.samples).map(|(w, sample)| w * sample).sum();
+        let exact = (grey as f64 / self.side as f64).to_bits() == value.numbers[0];
+        there && weights.iter().sum::<u64>() == self.side && exact
+    }
+
+    /// The slope leads from the sample at vertex 0 to each other one. No other slope does.
+    fn has_slope(&self, answer: &Answer) -> bool {
+        let (slope, d) = (answer.axes.map(f64::from_bits), self.d);
+        let rise = |i: usize| self.samples[i] as f64 - self.samples[0] as f64;
+        let way = |i: usize, a: usize| self.points[i * d + a] as f64 - self.points[a] as f64;
+        (1..=d).all(|i| (0..d).map(|a| slope[a] * way(i, a)).sum::<f64>() == rise(i))
+    }
+}
+
 fn two_bytes(bytes: &[u8]) -> Vec<u64> {
     bytes.chunks(2).map(|two| two[0] as u64 + 256 * two[1] as u64).collect()
 }
@@ -364,9 +388,9 @@ fn vertex(points: &Bytes, place: usize, d: usize) -> &[u8] {
 }
 
 /// A vertex as a crossing answers it: zeros on the axes that the dimension lacks.
-fn coordinates(points: &Bytes, place: u8, d: usize) -> [u16; MOST_AXES] {
+fn coordinates(points: &Bytes, place: u8, d: usize) -> [u64; MOST_AXES] {
     let v = vertex(points, place as usize, d);
-    std::array::from_fn(|a| if a < d { v[2 * a] as u16 + 256 * v[2 * a + 1] as u16 } else { 0 })
+    std::array::from_fn(|a| if a < d { v[2 * a] as u64 + 256 * v[2 * a + 1] as u64 } else { 0 })
 }
 
 /// All points but one of each are those of the other, in any order.
