@@ -13,6 +13,7 @@
  *     compatible SHEET         yes, or no
  *     leaf (1024,1024) SHEET   record 0 weights 3072 0 1024
  *     value (1024,1024) SHEET  20
+ *     slope (1024,512) SHEET   on each axis: 0.00244140625 0.00732421875
  *
  * CODE and SHEET are bytes, two hex digits each. A refusal is `refused 6`, one found while reading a sheet `refused 14 at 12`.
  */
@@ -253,13 +254,28 @@ static void ask_value(const char *at)
         printf("%.17g", answer.value);
 }
 
+static void ask_slope(const char *at)
+{
+    uint8_t where[2 * 8];
+    size_t count = point(&at, where, sizeof where);
+    rest(at);
+    rmk_slope_answer answer = rmk_slope_at(bytes, length, where, count);
+    if (refused_at(answer.refusal, answer.offset))
+        return;
+    for (size_t a = bytes[2]; a < 4; a++)
+        if (answer.slope[a] != 0)
+            fail("a slope of an unused axis is not 0");
+    for (size_t a = 0; a < bytes[2]; a++)
+        printf("%s%.17g", a ? " " : "", answer.slope[a]);
+}
+
 static const struct {
     const char *verb;
     void (*ask)(const char *);
 } questions[] = {
     {"check ", ask_check}, {"code ", ask_code},   {"path ", ask_path},   {"vertices ", ask_vertices},
     {"child ", ask_child}, {"parent ", ask_parent}, {"cross ", ask_cross}, {"sheet ", ask_sheet},
-    {"compatible ", ask_compatible}, {"leaf ", ask_leaf}, {"value ", ask_value},
+    {"compatible ", ask_compatible}, {"leaf ", ask_leaf}, {"value ", ask_value}, {"slope ", ask_slope},
 };
 
 int main(void)
