@@ -14,6 +14,8 @@ use Rattle.sheets.specs.Sheets.{SheetIs}
 use Rattle.sheets.specs.Theorems.Determined.{sheet-determined}
 use Rattle.queries.specs.Queries.{LeafIs, ValueIs, FlatValueIs}
 use Rattle.queries.specs.Determined.{leaf-determined, value-determined, flat-determined}
+use Rattle.queries.specs.SlopeQueries.{SlopeIs, FlatSlopeIs}
+use Rattle.queries.specs.SlopeDetermined.{slope-determined, flat-slope-determined}
 use Rattle.compatible.specs.Compatible.{CompatibleIs}
 use Rattle.compatible.specs.Determined.{compatible-determined}
 use Rattle.listing.specs.Texts.{Lists}
@@ -38,6 +40,8 @@ pub record EveryEntry : Type 0 where
   pub leaf-at : (sheet point before : List ℕ) → OneOutcome (LeafIs sheet point before)
   pub value-at : (sheet point : List ℕ) → OneAnswer (ValueIs sheet point)
   pub flat-value-at : (sheet point : List ℕ) → OneAnswer (FlatValueIs sheet point)
+  pub slope-at : (sheet point : List ℕ) → OneAnswer (SlopeIs sheet point)
+  pub flat-slope-at : (sheet point : List ℕ) → OneAnswer (FlatSlopeIs sheet point)
   pub compatible : (sheet : List ℕ) → OneAnswer (CompatibleIs sheet)
   pub list-sheet : (sheet before : List ℕ) → OneOutcome (Lists sheet before)
 
@@ -58,6 +62,8 @@ nothing-open = record {
   leaf-at = λ sheet point before r r′ after after′ a b. let s = leaf-determined a b in (s .answer, s .buffer);
   value-at = λ sheet point r r′ a b. value-determined a b;
   flat-value-at = λ sheet point r r′ a b. flat-determined a b;
+  slope-at = λ sheet point r r′ a b. slope-determined a b;
+  flat-slope-at = λ sheet point r r′ a b. flat-slope-determined a b;
   compatible = λ sheet r r′ a b. compatible-determined a b;
   list-sheet = λ sheet before r r′ after after′ a b. listing-determined sheet before r r′ after after′ a b;
 }

@@ -23,3 +23,4 @@ pub mod Theorems
 pub mod Shown
 pub mod TwoLeaves
 pub mod PointTen
+pub mod SlopeTwo

@@ -17,6 +17,9 @@ use Rattle.queries.specs.declared.LeafAnswer.{LeafAnswer}
 use Rattle.queries.specs.Queries.{LeafIs, FlatValueIs}
 use Rattle.greys.specs.declared.ValueAnswer.{ValueAnswer}
 use Rattle.greys.specs.Fractions.{plusZero}
+use Rattle.queries.specs.SlopeQueries.{FlatSlopeIs}
+use Rattle.slopes.specs.declared.SlopeAnswer.{SlopeAnswer}
+use Rattle.slopes.specs.Slopes.{noSlopes}
 use Rattle.compatible.specs.declared.CompatibleAnswer.{CompatibleAnswer}
 use Rattle.compatible.specs.Compatible.{CompatibleIs}
 
@@ -49,4 +52,5 @@ pub record Demand1 : Type 0 where
   pub leaf-at : (sheet point before : List ℕ) (r : LeafAnswer) (after : List ℕ) → LeafIs sheet point before r after → r .refusal ≢ done
       → Clean (r .refusal) (r .number ∷ r .length ∷ []) (before ∷ []) (after ∷ []) × OffsetOf sheet (r .offset)
   pub value-at : (sheet point : List ℕ) (r : ValueAnswer) → FlatValueIs sheet point r → r .refusal ≢ done → Clean (r .refusal) [] [] [] × OffsetOf sheet (r .offset) × (r .value ≡ plusZero)
+  pub slope-at : (sheet point : List ℕ) (r : SlopeAnswer) → FlatSlopeIs sheet point r → r .refusal ≢ done → Clean (r .refusal) [] [] [] × OffsetOf sheet (r .offset) × (r .slopes ≡ noSlopes)
   pub compatible : (sheet : List ℕ) (r : CompatibleAnswer) → CompatibleIs sheet r → r .refusal ≢ done → Clean (r .refusal) (r .compatible ∷ []) [] [] × OffsetOf sheet (r .offset)

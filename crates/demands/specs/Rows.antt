@@ -11,11 +11,15 @@ use Rattle.codes.specs.Outcomes.{PathToCode, Vertices, Child}
 use Rattle.crossing.specs.Outcome.{byAxes, nowhere, Crosses}
 use Rattle.sheets.specs.Sheets.{told, SheetIs}
 use Rattle.listing.specs.Texts.{Lists}
-use lib.IntN.{pos}
-use lib.Ieee.{binary64, ofInt}
+use lib.IntN.{ℤ, pos}
+use lib.Ieee.{binary64, ofInt, div}
 use Rattle.bisection.specs.Cells.{Point, pointBytes}
+use Rattle.bisection.specs.Slopes.{onAxis}
 use Rattle.greys.specs.declared.Value.the-variants.{Grey}
 use Rattle.queries.specs.Queries.{leafTold, LeafIs, ValueIs}
+use Rattle.queries.specs.SlopeQueries.{SlopeIs}
+use Rattle.slopes.specs.declared.Slopes.{Slopes}
+use Rattle.slopes.specs.declared.Slope.the-variants.{Along}
 
 pub data Row : Type 0 where
   path-to-code : (root path code : List ℕ) → Row
@@ -33,10 +37,21 @@ pub data Row : Type 0 where
   leaf-at : (sheet point : List ℕ) (number : ℕ) (weights : List ℕ) → Row
   -- a value that is a whole number
   value-at : (sheet point : List ℕ) (value : ℕ) → Row
+  -- the slopes: on each axis a whole number with a sign, over the side
+  slope-at : (sheet point : List ℕ) (numbers : List ℤ) (side : ℕ) → Row
 
 -- the answer stands at the front of every buffer with room for it, and the other cells keep their content
 unfoldable pub Answered : (List ℕ → Written → List ℕ → Type 0) → List ℕ → Type 0
 Answered contract answer = (before : List ℕ) → length answer ≤ length before → contract before (record { refusal = done; length = length answer }) (answer ++ drop (length answer) before)
+
+-- a number over the side, as f64s are divided; on an axis past the last number it is 0 over the side
+abbrev pub overSide : ℕ → List ℤ → Slopes
+overSide side ns = record {
+  first = div binary64 (ofInt binary64 (onAxis ns 1)) (ofInt binary64 (pos side));
+  second = div binary64 (ofInt binary64 (onAxis ns 2)) (ofInt binary64 (pos side));
+  third = div binary64 (ofInt binary64 (onAxis ns 3)) (ofInt binary64 (pos side));
+  fourth = div binary64 (ofInt binary64 (onAxis ns 4)) (ofInt binary64 (pos side));
+}
 
 unfoldable pub Holds : Row → Type 0
 Holds (path-to-code root path code) = Answered (PathToCode root path) code
@@ -51,6 +66,7 @@ Holds (listing sheet text) = (before : List ℕ) → Lists sheet before (length 
 Holds (leaf-at sheet point number weights) = (before : List ℕ) → length (pointBytes weights) ≤ length before
     → LeafIs sheet point before (leafTold done 0 number (length (pointBytes weights))) (pointBytes weights ++ drop (length (pointBytes weights)) before)
 Holds (value-at sheet point value) = ValueIs sheet point (Grey (ofInt binary64 (pos value)))
+Holds (slope-at sheet point numbers side) = SlopeIs sheet point (Along (overSide side numbers))
 
 unfoldable pub Every : List Row → Type 0
 Every [] = Unit {0}

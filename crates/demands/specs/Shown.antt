@@ -2,10 +2,11 @@
 use mathlib.Core.Path.{_≡_, refl, sym, ap, _∙_, subst}
 use mathlib.Core.Bool.{true, false}
 use mathlib.Core.List.{List, [], _∷_, _++_}
-use Prim.Native.Nat.{ℕ, suc, _*_, _^_, _≤_}
+use Prim.Native.Nat.{ℕ, suc, _*_, _^_, _≤_, _<_}
 use native.Mathlib.Omega.{arith}
 use native.Mathlib.Nat.{mul-one}
 use lib.Dec.{T, leb, ltb}
+use lib.IntN.{ℤ, natAbs}
 use lib.ListN.{length, drop}
 use borrow.Author.Tests.{le-leb, leb-true}
 use Rattle.dimension.specs.Sizes.{isDimension, greatestDepth, codeLength, pointsLength}
@@ -16,6 +17,7 @@ use Rattle.bisection.specs.Theorems.Ladders.{first-is, all-hold, holds, past}
 use Rattle.bisection.specs.Theorems.CodePaths.{rootOf, pathOf, code-path, childCode}
 use Rattle.bisection.specs.Theorems.CodeCells.{code-cell, cell-passes, one-cell}
 use Rattle.bisection.specs.Facets.{IsCell, Across}
+use Rattle.bisection.specs.Slopes.{onAxis, Linear}
 use Rattle.bisection.specs.Theorems.Neighbour.{isBlocked, tableCode, tablePlace, face-is-blocked, blocked-is-face, blocked-alone, across-unblocked}
 use Rattle.codes.specs.Outcomes.{pathRefusal, PathToCode, verticesRefusal, Vertices, childRefusal, Child}
 use Rattle.codes.specs.PathAnswers.{good-root, code-of-length}
@@ -25,10 +27,12 @@ use Rattle.crossing.specs.Outcome.{byAxes, crossed, wall}
 use Rattle.sheets.specs.Sheets.{sheetMark, sampleWidth, samplesOf, GoodSheet, good, Good, sheet-good}
 use Rattle.listing.specs.Texts.{Listing}
 use Rattle.points.specs.Points.{pointOf, isPoint}
-use Rattle.greys.specs.Samples.{greySum}
-use Rattle.greys.specs.Exact.{fraction-same, whole-fraction}
-use Rattle.queries.specs.Queries.{sideIn, LeafAt, LeafWeights, weightsLength, leafRefusal, leafTold, leaf-found, value-found}
-use Rattle.demands.specs.Rows.{Row, path-to-code, vertices, code-check, child-at, cross, walled, sheet-check, listing, leaf-at, value-at, Answered, Holds, Every}
+use Rattle.greys.specs.Fractions.{Power}
+use Rattle.greys.specs.Samples.{greySum, sampleAt}
+use Rattle.greys.specs.Exact.{fraction-same, whole-fraction, quotient-divided}
+use Rattle.queries.specs.SlopeQueries.{slope-found}
+use Rattle.queries.specs.Queries.{cellIn, sideIn, LeafAt, LeafWeights, weightsLength, leafRefusal, leafTold, leaf-found, value-found}
+use Rattle.demands.specs.Rows.{Row, path-to-code, vertices, code-check, child-at, cross, walled, sheet-check, listing, leaf-at, value-at, slope-at, Answered, overSide, Holds, Every}
 
 -- a root and a path that are not refused, and their code
 pub record PathShown (root path code : List ℕ) : Type 0 where
@@ -82,6 +86,18 @@ pub record ValueShown (sheet point : List ℕ) (value : ℕ) : Type 0 where
   pub small : value ≤ 2 ^ 53
   pub sum : value * sideIn (leaf-shown .good-sheet .cells) number ≡ greySum sampleWidth weights (samplesOf (leaf-shown .good-sheet .records) number)
 
+-- a good sheet, a point of the cube, the leaf there, and the numbers of its slope: each is a float, and the side is a power of two
+pub record SlopeShown (sheet point : List ℕ) (numbers : List ℤ) (side : ℕ) : Type 0 where
+  pub count : ℕ
+  pub good-sheet : Good sheet count
+  pub passes : isPoint (good-sheet .dimension) point ≡ true
+  pub number : ℕ
+  pub leaf : LeafAt (good-sheet .cells) (pointOf point) number
+  pub side-is : sideIn (good-sheet .cells) number ≡ side
+  pub linear : Linear side (cellIn (good-sheet .cells) number) (sampleAt sampleWidth (samplesOf (good-sheet .records) number)) numbers
+  pub power : Power side
+  pub small : (natAbs (onAxis numbers 1) < 2 ^ 53) × (natAbs (onAxis numbers 2) < 2 ^ 53) × (natAbs (onAxis numbers 3) < 2 ^ 53) × (natAbs (onAxis numbers 4) < 2 ^ 53)
+
 unfoldable pub Shown : Row → Type 0
 Shown (path-to-code root path code) = PathShown root path code
 Shown (vertices code points) = CellShown code points
@@ -93,6 +109,7 @@ Shown (sheet-check sheet records) = GoodSheet sheetMark sampleWidth sheet record
 Shown (listing sheet text) = Listing sheet text
 Shown (leaf-at sheet point number weights) = LeafShown sheet point number weights
 Shown (value-at sheet point value) = ValueShown sheet point value
+Shown (slope-at sheet point numbers side) = SlopeShown sheet point numbers side
 
 path-row : {root path code : List ℕ} → PathShown root path code → Answered (PathToCode root path) code
 unfolding Answered pathRefusal
@@ -170,6 +187,15 @@ unfolding Holds
 value-row {value = value} a = let b = a .leaf-shown in
     sheet-good (b .good-sheet) (value-found (b .passes) (b .leaf) (b .weighs) (fraction-same (omega arith) (a .sum ∙ sym (mul-one (greySum sampleWidth (a .weights) (samplesOf (b .good-sheet .records) (a .number))))) (whole-fraction (a .small))) refl)
 
+slope-row : {sheet point : List ℕ} {numbers : List ℤ} {side : ℕ} → SlopeShown sheet point numbers side → Holds (slope-at sheet point numbers side)
+unfolding Holds
+slope-row {numbers = numbers} {side = side} a = sheet-good (a .good-sheet) (slope-found {ns = numbers} {x = overSide side numbers} (a .passes) (a .leaf) (rw (a .side-is) (a .linear)) (rw (a .side-is) (record {
+  first = quotient-divided (a .small .0) (a .power);
+  second = quotient-divided (a .small .1) (a .power);
+  third = quotient-divided (a .small .2) (a .power);
+  fourth = quotient-divided (a .small .3) (a .power);
+})) refl)
+
 row : (r : Row) → Shown r → Holds r
 unfolding Shown Holds
 row (path-to-code root path code) a = path-row a
@@ -182,6 +208,7 @@ row (sheet-check sheet records) a = good a refl
 row (listing sheet text) a = λ before. record { text = text; listing = a; length-is = refl; front = refl }
 row (leaf-at sheet point number weights) a = leaf-row a
 row (value-at sheet point value) a = value-row a
+row (slope-at sheet point numbers side) a = slope-row a
 
 -- row by row
 infixr 5 _and_

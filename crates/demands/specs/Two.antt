@@ -4,6 +4,7 @@ use mathlib.Core.Path.{_≡_}
 use mathlib.Core.List.{List}
 use Prim.Native.Nat.{ℕ}
 use lib.ListN.{length, take}
+use lib.IntN.{ℤ}
 use lib.Ieee.{Float}
 use Rattle.dimension.specs.Sizes.{splitPlace}
 use Rattle.bisection.specs.Cells.{Cell, cellOf, cellBytes, pointBytes, child}
@@ -11,6 +12,7 @@ use Rattle.bisection.specs.Roots.{GoodRoot, GoodPath}
 use Rattle.bisection.specs.Codes.{dimensionOf, depthOf}
 use Rattle.bisection.specs.Refusals.{done}
 use Rattle.bisection.specs.Facets.{IsCell}
+use Rattle.bisection.specs.Slopes.{Linear}
 use Rattle.codes.specs.declared.Written.{Written}
 use Rattle.codes.specs.declared.PathWritten.{PathWritten}
 use Rattle.codes.specs.Outcomes.{PathToCode, CodeToPath, Vertices, Child, Parent}
@@ -18,10 +20,14 @@ use Rattle.sheets.specs.declared.SheetAnswer.{SheetAnswer}
 use Rattle.sheets.specs.Sheets.{SheetIs, Good, sampleWidth, samplesOf}
 use Rattle.points.specs.Points.{pointOf}
 use Rattle.queries.specs.declared.LeafAnswer.{LeafAnswer}
-use Rattle.queries.specs.Queries.{LeafIs, LeafAt, LeafWeights, ValueIs, sideIn}
+use Rattle.queries.specs.Queries.{LeafIs, LeafAt, LeafWeights, ValueIs, cellIn, sideIn}
+use Rattle.queries.specs.SlopeQueries.{SlopeIs}
 use Rattle.greys.specs.declared.Value.the-variants.{Grey}
 use Rattle.greys.specs.Fractions.{Fraction}
-use Rattle.greys.specs.Samples.{greySum}
+use Rattle.greys.specs.Samples.{greySum, sampleAt}
+use Rattle.slopes.specs.declared.Slopes.{Slopes}
+use Rattle.slopes.specs.declared.Slope.the-variants.{Along}
+use Rattle.slopes.specs.Slopes.{Components}
 use Rattle.compatible.specs.declared.CompatibleAnswer.{CompatibleAnswer}
 use Rattle.compatible.specs.Compatible.{CompatibleIs, Compatible}
 
@@ -39,6 +45,17 @@ pub record There (sheet point : List ℕ) : Type 0 where
   pub leaf : LeafAt (good .cells) (pointOf point) number
   pub weights : List ℕ
   pub weighs : LeafWeights (good .cells) number (pointOf point) weights
+
+-- a sheet's slopes at a point: those of the only linear function through the samples of the leaf there, over s
+pub record SlopesThere (sheet point : List ℕ) (x : Slopes) : Type 0 where
+  pub count : ℕ
+  pub good : Good sheet count
+  pub number : ℕ
+  pub leaf : LeafAt (good .cells) (pointOf point) number
+  pub numbers : List ℤ
+  pub linear : Linear (sideIn (good .cells) number) (cellIn (good .cells) number) (sampleAt sampleWidth (samplesOf (good .records) number)) numbers
+  pub only : (ns : List ℤ) → Linear (sideIn (good .cells) number) (cellIn (good .cells) number) (sampleAt sampleWidth (samplesOf (good .records) number)) ns → ns ≡ numbers
+  pub components : Components (sideIn (good .cells) number) numbers x
 
 pub record Demand2 : Type 0 where
   -- what the one writes, given to the other, comes back
@@ -63,5 +80,6 @@ pub record Demand2 : Type 0 where
       → (t : There sheet point) × (r .number ≡ t .number) × (take (r .length) after ≡ pointBytes (t .weights))
   pub value-at : (sheet point : List ℕ) (x : Float) → ValueIs sheet point (Grey x)
       → (t : There sheet point) × Fraction x (greySum sampleWidth (t .weights) (samplesOf (t .good .records) (t .number))) (sideIn (t .good .cells) (t .number))
+  pub slope-at : (sheet point : List ℕ) (x : Slopes) → SlopeIs sheet point (Along x) → SlopesThere sheet point x
   -- a sheet is said to be compatible exactly where it is
   pub compatible : (sheet : List ℕ) (r : CompatibleAnswer) → CompatibleIs sheet r → (n : ℕ) (g : Good sheet n) → (r .compatible ≡ 1 → Compatible (g .cells)) × (Compatible (g .cells) → r .compatible ≡ 1)

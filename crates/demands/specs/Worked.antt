@@ -1,6 +1,7 @@
--- Document 01, "Cells worked by hand": the proved set, and a case of request No. 5, as rows of one table under one claim.
+-- Document 01, "Cells worked by hand": the proved set, and cases of requests No. 1 and No. 5, as rows of one table under one claim.
 use mathlib.Core.Path.{refl}
 use mathlib.Core.List.{List, [], _∷_}
+use lib.IntN.{pos}
 use lib.ListN.{replicate}
 use Rattle.dimension.specs.Sizes.{isDimension, halvings, cubeSide, sideAfter, greatestDepth, level, splitPlace, boxDepth, boxSide, codeLength, pointsLength}
 use native.Mathlib.Omega.{arith}
@@ -15,13 +16,15 @@ use Rattle.bisection.specs.Theorems.Table.{move, newAt, exchanged, negatedAt, e
 use Rattle.listing.specs.Texts.{digit, spelled, decimal, hex, numberLine, leafLine, leafLines, goodText, refusedText}
 use Rattle.listing.specs.Texts.{good as good-listing}
 use Rattle.demands.specs.TwoLeaves.{twoLeaves, twoLeavesText, oneLeaf, two-leaves, one-leaf-listed, too-large-listed}
-use Rattle.demands.specs.Rows.{Row, path-to-code, vertices, code-check, child-at, cross, walled, sheet-check, listing, leaf-at, value-at, Every}
+use Rattle.demands.specs.Rows.{Row, path-to-code, vertices, code-check, child-at, cross, walled, sheet-check, listing, leaf-at, value-at, slope-at, Every}
 use Rattle.bisection.specs.Weights.{sumTo}
 use Rattle.points.specs.Points.{pointOf, isPoint}
 use Rattle.greys.specs.Samples.{greySum, sampleAt, lowFirst}
+use Rattle.greys.specs.Exact.{cube-power}
 use Rattle.sheets.specs.Sheets.{samplesOf}
 use Rattle.demands.specs.PointTen.{weightsTen, ten-weighs, ten-leaf}
-use Rattle.demands.specs.Shown.{LeafShown, Shown, _and_, no-more, every}
+use Rattle.demands.specs.SlopeTwo.{slope-leaf, slope-linear}
+use Rattle.demands.specs.Shown.{LeafShown, SlopeShown, Shown, _and_, no-more, every}
 
 unfoldable pub table : List Row
 table =
@@ -63,6 +66,8 @@ table =
     listing twoLeaves twoLeavesText ∷
     leaf-at twoLeaves (0x00 ∷ 0x04 ∷ 0x00 ∷ 0x04 ∷ []) 0 (3072 ∷ 0 ∷ 1024 ∷ []) ∷
     value-at twoLeaves (0x00 ∷ 0x04 ∷ 0x00 ∷ 0x04 ∷ []) 20 ∷
+    -- request No. 1, on the same sheet: at (1024,512) the slopes 10/4096 and 30/4096
+    slope-at twoLeaves (0x00 ∷ 0x04 ∷ 0x00 ∷ 0x02 ∷ []) (pos 10 ∷ pos 30 ∷ []) 4096 ∷
     -- its first 12 bytes: "refused 14 at 12"; and one byte too many: "refused 15 at 0"
     listing oneLeaf (0x72 ∷ 0x65 ∷ 0x66 ∷ 0x75 ∷ 0x73 ∷ 0x65 ∷ 0x64 ∷ 0x20 ∷ 0x31 ∷ 0x34 ∷ 0x20 ∷ 0x61 ∷ 0x74 ∷ 0x20 ∷ 0x31 ∷ 0x32 ∷ 0x0A ∷ []) ∷
     listing (replicate 65537 0x43) (0x72 ∷ 0x65 ∷ 0x66 ∷ 0x75 ∷ 0x73 ∷ 0x65 ∷ 0x64 ∷ 0x20 ∷ 0x31 ∷ 0x35 ∷ 0x20 ∷ 0x61 ∷ 0x74 ∷ 0x20 ∷ 0x30 ∷ 0x0A ∷ []) ∷
@@ -71,6 +76,10 @@ table =
 ten : LeafShown twoLeaves (0x00 ∷ 0x04 ∷ 0x00 ∷ 0x04 ∷ []) 0 weightsTen
 unfolding two-leaves isPoint pointOf each pointBytes cubeSide halvings
 ten = record { count = 2; good-sheet = two-leaves; passes = refl; leaf = ten-leaf; weighs = ten-weighs; size = refl }
+
+museum : SlopeShown twoLeaves (0x00 ∷ 0x04 ∷ 0x00 ∷ 0x02 ∷ []) (pos 10 ∷ pos 30 ∷ []) 4096
+unfolding two-leaves isPoint pointOf each cubeSide halvings boxSide boxDepth sideAfter
+museum = record { count = 2; good-sheet = two-leaves; passes = refl; number = 0; leaf = slope-leaf; side-is = refl; linear = slope-linear; power = cube-power; small = (omega arith, omega arith, omega arith, omega arith) }
 
 -- the claim
 pub worked : Every table
@@ -108,6 +117,7 @@ worked = every table (
     and good-listing (omega arith) two-leaves
     and ten
     and record { number = 0; weights = weightsTen; leaf-shown = ten; small = omega arith; sum = refl }
+    and museum
     and one-leaf-listed
     and too-large-listed
     and no-more)

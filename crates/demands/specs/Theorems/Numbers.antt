@@ -14,6 +14,7 @@ use Rattle.codes.specs.Outcomes.{pathRefusal, toPathRefusal, verticesRefusal, c
 use Rattle.sheets.specs.declared.SheetAnswer.{SheetAnswer}
 use Rattle.sheets.specs.Sheets.{sheetMark, sampleWidth, SheetIs, good, record-refused, not-next, ended-early, behindMark, unmarkedRefusal, recordRefusal, told, Good, Query, sheet-refused, sheet-good}
 use Rattle.sheets.specs.Theorems.Determined.{sheet-determined}
+use Rattle.points.specs.Points.{refusedPoint}
 use Rattle.queries.specs.Queries.{leafRefusal}
 use Rattle.demands.specs.One.{OffsetOf}
 
@@ -98,3 +99,27 @@ module _ {sheet : List ℕ} {refused : ℕ → ℕ → Type 0} {answered : (n : 
       go : Query sheet refused answered → offset ≡ a .offset
       go (sheet-refused {a = b} t k x) = f (b .refusal) (b .offset) x ∙ ap (λ (a : SheetAnswer). a .offset) (sheet-determined sheet b a t s)
       go (sheet-good {n = n} g x) = h n g x ∙ ap (λ (a : SheetAnswer). a .offset) (sheet-determined sheet (told done 0 n) a (good g refl) s)
+
+-- an answer that is refused or not, and what a C program has of it: of a refusal its number and its offset
+pub record Told (A : Type 0) : Type 0 where
+  pub refused : ℕ → ℕ → A
+  pub number : A → ℕ
+  pub offset : A → ℕ
+  pub number-is : (n o : ℕ) → number (refused n o) ≡ n
+  pub offset-is : (n o : ℕ) → offset (refused n o) ≡ o
+
+-- such an answer of a query that is refused, of a good sheet by its point
+module _ {A : Type 0} (t : Told A) {sheet : List ℕ} {a : A} {answered : (n : ℕ) → Good sheet n → Type 0} (q : Query sheet (λ n o. a ≡ t .refused n o) answered)
+    (by-point : (n : ℕ) (g : Good sheet n) → answered n g → a ≡ t .refused refusedPoint 0) where
+  pub told-in : t .number a ≤ 15
+  told-in = query-in q (λ n o e. ap (t .number) e ∙ t .number-is n o) (λ n g x. omega (arith, ap (t .number) (by-point n g x), t .number-is refusedPoint 0))
+
+  pub told-offset : OffsetOf sheet (t .offset a)
+  told-offset = query-offset q (λ n o e. ap (t .offset) e ∙ t .offset-is n o) (λ n g x. ap (t .offset) (by-point n g x) ∙ t .offset-is refusedPoint 0)
+
+  pub told-none : {X : Type 0} (others : A → X) (none : X) → ((n o : ℕ) → others (t .refused n o) ≡ none) → others a ≡ none
+  told-none others none e = go q
+    where
+      go : Query sheet (λ n o. a ≡ t .refused n o) answered → others a ≡ none
+      go (sheet-refused s k x) = ap others x ∙ e _ _
+      go (sheet-good g x) = ap others (by-point _ g x) ∙ e refusedPoint 0

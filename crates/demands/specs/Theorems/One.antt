@@ -7,7 +7,6 @@ use Prim.Native.Nat.{ℕ, _≤_, _<_}
 use native.Mathlib.Omega.{arith}
 use native.Mathlib.Decide.{decLt, ℕ-discrete}
 use lib.ListN.{length}
-use lib.Ieee.{Float}
 use Rattle.bisection.specs.Codes.{dimensionOf}
 use Rattle.bisection.specs.Refusals.{done, codeRefusal}
 use Rattle.codes.specs.declared.Written.{Written}
@@ -18,16 +17,22 @@ use Rattle.crossing.specs.Outcome.{Refuses, Crosses, Meets, wall, short, crosse
 use Rattle.sheets.specs.declared.SheetAnswer.{SheetAnswer}
 use Rattle.sheets.specs.Sheets.{Good, Query, sheet-refused, sheet-good}
 use Rattle.queries.specs.declared.LeafAnswer.{LeafAnswer}
-use Rattle.queries.specs.Queries.{LeafIs, LeafOn, leaf-refused, leaf-found, leafTold, ValueIs, ValueOn, value-refused, value-found, FlatValueIs}
+use Rattle.queries.specs.Queries.{LeafIs, LeafOn, leaf-refused, leaf-found, leafTold, ValueOn, value-refused, value-found, FlatValueIs}
 use Rattle.greys.specs.declared.ValueAnswer.{ValueAnswer}
 use Rattle.greys.specs.declared.Value.{Value}
 use Rattle.greys.specs.declared.Value.the-variants.{Grey, Refused}
 use Rattle.greys.specs.Fractions.{plusZero}
 use Rattle.greys.specs.Values.{flatOf}
+use Rattle.queries.specs.SlopeQueries.{SlopeOn, slope-refused, slope-found, FlatSlopeIs}
+use Rattle.slopes.specs.declared.SlopeAnswer.{SlopeAnswer}
+use Rattle.slopes.specs.declared.Slope.{Slope}
+use Rattle.slopes.specs.declared.Slope.the-variants.{Refused as NoSlope}
+use Rattle.slopes.specs.Slopes.{noSlopes, flatOf as flatSlope}
 use Rattle.compatible.specs.declared.CompatibleAnswer.{CompatibleAnswer}
 use Rattle.compatible.specs.Compatible.{CompatibleIs, Judges, yes-all, not-all}
+use Rattle.points.specs.Points.{refusedPoint}
 use Rattle.demands.specs.One.{Zero, Clean, OffsetOf, Demand1}
-use Rattle.demands.specs.Theorems.Numbers.{code-in, path-in, to-path-in, vertices-in, child-in, parent-in, leaf-in, sheet-in, sheet-none, query-in, query-offset}
+use Rattle.demands.specs.Theorems.Numbers.{code-in, path-in, to-path-in, vertices-in, child-in, parent-in, leaf-in, sheet-in, sheet-none, query-offset, Told, told-in, told-offset, told-none}
 
 -- what is written, and what crossing refuses
 writes-clean : {refusal : ℕ} {answer before : List ℕ} {r : Written} {after : List ℕ} → Writes refusal answer before r after → refusal ≤ 15 → r .refusal ≢ done → Clean (r .refusal) (r .length ∷ []) (before ∷ []) (after ∷ [])
@@ -84,36 +89,31 @@ leaf-clean sheet point before r after q k = (clean q, query-offset q (λ n o x. 
     offset n g (leaf-refused h e b) = ap (λ (r : LeafAnswer). r .offset) e
     offset n g (leaf-found h a w e b) = ap (λ (r : LeafAnswer). r .offset) e
 
+nothing : {number : ℕ} → number ≤ 15 → Clean number [] [] []
+unfolding Zero
+nothing l = record { in-table = l; zero = tt; kept = refl }
+
 value-clean : (sheet point : List ℕ) (r : ValueAnswer) → FlatValueIs sheet point r → r .refusal ≢ done → Clean (r .refusal) [] [] [] × OffsetOf sheet (r .offset) × (r .value ≡ plusZero)
-unfolding Zero flatOf
-value-clean sheet point r f k = (record { in-table = query-in (f .value) number number-good; zero = nothing; kept = refl }, query-offset (f .value) offset offset-good, value (f .answer) refl)
+unfolding flatOf
+value-clean sheet point r f k = rw (f .is) (nothing (told-in t (f .value) by-point), told-offset t (f .value) by-point, told-none t (f .value) by-point (λ v. flatOf v .value) plusZero (λ n o. refl))
   where
-    nothing : Zero []
-    nothing = tt
+    t : Told Value
+    t = record { refused = Refused; number = λ v. flatOf v .refusal; offset = λ v. flatOf v .offset; number-is = λ n o. refl; offset-is = λ n o. refl }
 
-    flat : {n o : ℕ} → f .answer ≡ Refused n o → r ≡ record { refusal = n; offset = o; value = plusZero }
-    flat e = f .is ∙ ap flatOf e
+    by-point : (n : ℕ) (g : Good sheet n) → ValueOn g point (f .answer) → f .answer ≡ Refused refusedPoint 0
+    by-point n g (value-refused h e) = e
+    by-point n g (value-found h a w x e) = absurd (k (ap (λ (r : ValueAnswer). r .refusal) (f .is ∙ ap flatOf e)))
 
-    flat-grey : {x : Float} → f .answer ≡ Grey x → r ≡ record { refusal = 0; offset = 0; value = x }
-    flat-grey e = f .is ∙ ap flatOf e
+slope-clean : (sheet point : List ℕ) (r : SlopeAnswer) → FlatSlopeIs sheet point r → r .refusal ≢ done → Clean (r .refusal) [] [] [] × OffsetOf sheet (r .offset) × (r .slopes ≡ noSlopes)
+unfolding flatSlope
+slope-clean sheet point r f k = rw (f .is) (nothing (told-in t (f .slope) by-point), told-offset t (f .slope) by-point, told-none t (f .slope) by-point (λ v. flatSlope v .slopes) noSlopes (λ n o. refl))
+  where
+    t : Told Slope
+    t = record { refused = NoSlope; number = λ v. flatSlope v .refusal; offset = λ v. flatSlope v .offset; number-is = λ n o. refl; offset-is = λ n o. refl }
 
-    number : (n o : ℕ) → f .answer ≡ Refused n o → r .refusal ≡ n
-    number n o e = ap (λ (r : ValueAnswer). r .refusal) (flat e)
-
-    number-good : (n : ℕ) (g : Good sheet n) → ValueOn g point (f .answer) → r .refusal ≤ 15
-    number-good n g (value-refused h e) = omega (arith, number _ _ e)
-    number-good n g (value-found h a w x e) = absurd (k (ap (λ (r : ValueAnswer). r .refusal) (flat-grey e)))
-
-    offset : (n o : ℕ) → f .answer ≡ Refused n o → r .offset ≡ o
-    offset n o e = ap (λ (r : ValueAnswer). r .offset) (flat e)
-
-    offset-good : (n : ℕ) (g : Good sheet n) → ValueOn g point (f .answer) → r .offset ≡ 0
-    offset-good n g (value-refused h e) = offset _ _ e
-    offset-good n g (value-found h a w x e) = ap (λ (r : ValueAnswer). r .offset) (flat-grey e)
-
-    value : (v : Value) → f .answer ≡ v → r .value ≡ plusZero
-    value (Grey x) e = absurd (k (ap (λ (r : ValueAnswer). r .refusal) (flat-grey e)))
-    value (Refused n o) e = ap (λ (r : ValueAnswer). r .value) (flat e)
+    by-point : (n : ℕ) (g : Good sheet n) → SlopeOn g point (f .answer) → f .answer ≡ NoSlope refusedPoint 0
+    by-point n g (slope-refused h e) = e
+    by-point n g (slope-found h a l c e) = absurd (k (ap (λ (r : SlopeAnswer). r .refusal) (f .is ∙ ap flatSlope e)))
 
 compatible-clean : (sheet : List ℕ) (r : CompatibleAnswer) → CompatibleIs sheet r → r .refusal ≢ done → Clean (r .refusal) (r .compatible ∷ []) [] [] × OffsetOf sheet (r .offset)
 unfolding Zero
@@ -140,5 +140,6 @@ demand-1 = record {
   sheet-check = λ sheet r s k. record { in-table = sheet-in s; zero = (sheet-none s k, tt); kept = refl };
   leaf-at = leaf-clean;
   value-at = value-clean;
+  slope-at = slope-clean;
   compatible = compatible-clean;
 }

@@ -22,6 +22,7 @@ use Rattle.bisection.specs.Theorems.Checked.{each-at}
 use Rattle.bisection.specs.Theorems.Geometry.{closed-form}
 use Rattle.bisection.specs.Theorems.CodePaths.{one-path}
 use Rattle.bisection.specs.Theorems.CodeCells.{one-cell, same-code}
+use Rattle.bisection.specs.Theorems.Slopes.One.{OneSlope, one-slope}
 use Rattle.codes.specs.declared.Written.{Written}
 use Rattle.codes.specs.declared.PathWritten.{PathWritten}
 use Rattle.codes.specs.Outcomes.{Writes, Answers, pathRefusal, PathToCode, CodeToPath, PathOf, VerticesOf, Vertices, childRefusal, ChildOf, Child, ParentOf, Parent}
@@ -32,16 +33,21 @@ use Rattle.sheets.specs.declared.SheetAnswer.{SheetAnswer}
 use Rattle.sheets.specs.Sheets.{SheetIs, good, record-refused, not-next, ended-early, Good, told, leafIn, sampleWidth, samplesOf, sheet-refused, sheet-good}
 use Rattle.sheets.specs.Theorems.Determined.{sheet-determined}
 use Rattle.sheets.specs.Theorems.Good.{same-cells}
+use Rattle.sheets.specs.Theorems.Listing.{GoodCell}
 use Rattle.queries.specs.declared.LeafAnswer.{LeafAnswer}
 use Rattle.finding.specs.Walk.{leaf-good}
 use Rattle.queries.specs.Queries.{LeafIs, LeafAt, LeafWeights, LeafOn, leaf-refused, leaf-found, leafTold, weightsLength, sideIn, ValueIs, ValueOn, value-refused, value-found}
 use Rattle.greys.specs.Fractions.{Fraction}
-use Rattle.greys.specs.Samples.{greySum}
+use Rattle.greys.specs.Samples.{greySum, sampleAt}
 use Rattle.greys.specs.declared.Value.{Value}
 use Rattle.greys.specs.declared.Value.the-variants.{Grey, Refused}
+use Rattle.queries.specs.SlopeQueries.{SlopeIs, SlopeOn, slope-refused, slope-found}
+use Rattle.slopes.specs.declared.Slopes.{Slopes}
+use Rattle.slopes.specs.declared.Slope.{Slope}
+use Rattle.slopes.specs.declared.Slope.the-variants.{Along, Refused as NoSlope}
 use Rattle.compatible.specs.declared.CompatibleAnswer.{CompatibleAnswer}
 use Rattle.compatible.specs.Compatible.{CompatibleIs, Compatible, Judges, yes-all, not-all}
-use Rattle.demands.specs.Two.{OneCode, There, Demand2}
+use Rattle.demands.specs.Two.{OneCode, There, SlopesThere, Demand2}
 
 -- what an entry that is done has written, at the front of the buffer
 front : {refusal : ℕ} {answer before : List ℕ} {r : Written} {after : List ℕ} → Writes refusal answer before r after → r .refusal ≡ done → take (r .length) after ≡ answer
@@ -151,6 +157,32 @@ value-there sheet point x q = go q
     go (sheet-refused s k t) = absurd (subst isGrey t tt)
     go (sheet-good g t) = on g t
 
+abbrev slopesOf : Slopes → Slope → Slopes
+slopesOf z (Along y) = y
+slopesOf z (NoSlope n o) = z
+
+abbrev isAlong : Slope → Type 0
+isAlong (Along y) = Unit {0}
+isAlong (NoSlope n o) = ⊥
+
+slopes-there : (sheet point : List ℕ) (x : Slopes) → SlopeIs sheet point (Along x) → SlopesThere sheet point x
+slopes-there sheet point x q = go q
+  where
+    on : {n : ℕ} (g : Good sheet n) → SlopeOn g point (Along x) → SlopesThere sheet point x
+    on g (slope-refused h t) = absurd (subst isAlong t tt)
+    on {n} g (slope-found {i = i} {ns = ns} {x = y} h a l c t) = subst (SlopesThere sheet point) (sym (ap (slopesOf x) t))
+        (record { count = n; good = g; number = i; leaf = a; numbers = ns; linear = l; only = λ us k. one .others k ∙ sym (one .others l); components = c })
+      where
+        cell : GoodCell (leafIn (g .cells) i)
+        cell = leaf-good g i (a .number) .0
+
+        one : OneSlope (leafIn (g .cells) i .root) (leafIn (g .cells) i .path) (sampleAt sampleWidth (samplesOf (g .records) i))
+        one = one-slope (leafIn (g .cells) i .root) (leafIn (g .cells) i .path) (cell .good-root) (cell .good-path .depth) (sampleAt sampleWidth (samplesOf (g .records) i))
+
+    go : SlopeIs sheet point (Along x) → SlopesThere sheet point x
+    go (sheet-refused s k t) = absurd (subst isAlong t tt)
+    go (sheet-good g t) = on g t
+
 told-compatible : (sheet : List ℕ) (r : CompatibleAnswer) → CompatibleIs sheet r → (n : ℕ) (g : Good sheet n) → (r .compatible ≡ 1 → Compatible (g .cells)) × (Compatible (g .cells) → r .compatible ≡ 1)
 told-compatible sheet r q n g = go q
   where
@@ -174,5 +206,6 @@ demand-2 = record {
   good-yes = good-yes;
   leaf-at = leaf-there;
   value-at = value-there;
+  slope-at = slopes-there;
   compatible = told-compatible;
 }
