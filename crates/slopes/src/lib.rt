@@ -126,7 +126,8 @@ pub fn in_cell(code: &[u8], samples: &[u8], width: u8) -> Slopes
     while i < d {
         let next = greys::sample(samples, bytes, i + 1);
         let e = words::byte_at(entries, i);
-        on[place(e)] = along(e, i, split, first, before, next, side);
+        let a = place(e);
+        on[a] = along(e, i, split, first, before, next, side);
         before = next;
         i += 1;
     }

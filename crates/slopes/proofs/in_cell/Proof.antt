@@ -45,21 +45,23 @@ array-write-on : tie.Need-array-write-on Inv-loop μ-loop
 array-write-on c =
     let turn : tie.In-loop Inv-loop μ-loop = search in
     let entry : tie.After-byte-at Inv-loop μ-loop = search in
-    gather-place (turn .before .loop .inv) (turn .loop-test .taken) (entry .byte-at .ensures) (c .place .ensures)
+    let place : tie.After-place Inv-loop μ-loop = search in
+    gather-place (turn .before .loop .inv) (turn .loop-test .taken) (entry .byte-at .ensures) (place .place .ensures)
 
 mul-on : tie.Need-mul-on Inv-loop μ-loop
 mul-on c =
     let turn : tie.In-loop Inv-loop μ-loop = search in
     let entry : tie.After-byte-at Inv-loop μ-loop = search in
-    record { fits = omega (arith, gather-place (turn .before .loop .inv) (turn .loop-test .taken) (entry .byte-at .ensures) (c .place .ensures)) }
+    let place : tie.After-place Inv-loop μ-loop = search in
+    record { fits = omega (arith, gather-place (turn .before .loop .inv) (turn .loop-test .taken) (entry .byte-at .ensures) (place .place .ensures)) }
 
 loop-again : tie.Need-loop-again Inv-loop μ-loop
 loop-again c =
     let turn : tie.In-loop Inv-loop μ-loop = search in
     let next : tie.After-sample2 Inv-loop μ-loop = search in
     let entry : tie.After-byte-at Inv-loop μ-loop = search in
-    let slope : tie.After-along Inv-loop μ-loop = search in
-    gather-next (turn .before .loop .inv) (turn .loop-test .taken) (entry .byte-at .ensures) (next .sample2 .ensures) (c .place .ensures) (slope .along .ensures)
+    let place : tie.After-place Inv-loop μ-loop = search in
+    gather-next (turn .before .loop .inv) (turn .loop-test .taken) (entry .byte-at .ensures) (next .sample2 .ensures) (place .place .ensures) (c .along .ensures)
 
 returns : tie.Need-returns Inv-loop μ-loop
 returns c =
@@ -83,8 +85,8 @@ in-cell-spec =
     (λ c. search needs)
     (λ c κs. let turn : tie.In-loop Inv-loop μ-loop = search in gather-sample (turn .before .loop .inv) (turn .loop-test .taken))
     (λ c κs. let turn : tie.In-loop Inv-loop μ-loop = search in gather-entry (turn .before .loop .inv) (turn .loop-test .taken))
-    along-requires
     place-requires
+    along-requires
     mul-on
     array-write-on
     (λ c. search needs)
