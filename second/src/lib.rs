@@ -15,6 +15,7 @@ pub mod forests; // good sheets, as leaves of random forests
 pub mod hulls; // points between others, by elimination
 pub mod inputs; // good, damaged and random inputs
 pub mod lent; // lent outputs and the comparison of outcomes
+pub mod linear; // good sheets with the samples of one linear function
 pub mod listing; // "The listing program": the text of a sheet
 pub mod mending; // compatible sheets, as leaves of forests that are mended
 pub mod points; // points in, on and around cells

@@ -3,6 +3,7 @@ use crate::say;
 use bisection::DONE;
 use dimension::Dim;
 use greys::Value;
+use slopes::Slope;
 
 // The check of a code.
 pub fn checked(case: &[u8], code: &[u8]) {
@@ -128,6 +129,22 @@ pub fn value(sheet: &[u8], point: &[u8], named: u8) {
             say::text(b"another\n");
         }
     }
+}
+
+fn slope_answer(sheet: &[u8], point: &[u8]) {
+    match queries::slope_at(sheet, point) {
+        Slope::Refused { number, offset: _ } => say::refused(number),
+        Slope::Along(on) => say::slopes(on),
+    }
+}
+
+// The slope there, on each axis.
+pub fn slope(case: &[u8], sheet: &[u8], point: &[u8]) {
+    say::text(case);
+    say::text(b": slope at");
+    say::pairs(point);
+    say::text(b": ");
+    slope_answer(sheet, point);
 }
 
 // Whether a sheet is compatible.

@@ -1,6 +1,7 @@
-// The worked cases of document 01 that stand outside its proved set, and some for each slip that it names: a line for each, which
-// says the case and what the entry answers.
+// The worked cases of document 01 that stand outside its proved set, some for each slip that it names, and slopes in leaves of every
+// level: a line for each, which says the case and what the entry answers.
 mod ask; // ask.rt: each entry, what it is asked and what it answers
+mod linear; // linear.rt: sheets with the samples of one linear function
 mod say; // say.rt: what the program writes, part by part
 
 // The sheet of "The listing program": both roots of dimension 2.
@@ -46,6 +47,46 @@ fn coordinates() {
     ask::value(&SHEET, &[0x00, 0x10, 0x01, 0x10], 50);
 }
 
+// Request No. 1: "the two-root sheet of document 01 at (1024,512) has slopes 10/4096 and 30/4096". In the other root both are 20/4096.
+// Coordinate 4097 is refused.
+fn slopes_in_roots(sheet: &[u8]) {
+    ask::slope(b"sheet of 24 bytes", sheet, b"\0\x04\0\x02");
+    ask::slope(b"sheet of 24 bytes", sheet, b"\0\x02\0\x04");
+    ask::slope(b"sheet of 24 bytes", sheet, b"\x01\x10\0\x02");
+}
+
+// At depth 2, where the box's side is 2048: 30/2048 and 20/2048, then -20/2048 and 20/2048. At depth 1 the second entry is past the
+// split place: -50/4096 and 30/4096.
+fn slopes_in_corner(sheet: &[u8]) {
+    ask::slope(b"dimension 2, depth 2", sheet, b"\0\x04\0\x02");
+    ask::slope(b"dimension 2, depth 2", sheet, b"\0\x0C\0\x02");
+    ask::slope(b"dimension 2, depth 1", sheet, b"\0\x0E\0\x08");
+}
+
+// Leaves of every level, all with -300/4096, 200/4096 and 52/4096.
+fn slopes_in_three(sheet: &[u8]) {
+    ask::slope(b"dimension 3, depth 1", sheet, b"\0\x0A\0\x06\0\x02");
+    ask::slope(b"dimension 3, depth 2", sheet, b"\0\x0E\0\x08\0\x04");
+    ask::slope(b"dimension 3, depth 2", sheet, b"\0\x0E\0\x0C\0\x08");
+    ask::slope(b"dimension 3, depth 0", sheet, b"\0\x04\0\x08\0\x0C");
+}
+
+// The same with -300/4096, 200/4096, +0.0 and -64/4096.
+fn slopes_in_four(sheet: &[u8]) {
+    ask::slope(b"dimension 4, depth 1", sheet, b"\0\x07\0\x05\0\x03\0\x01");
+    ask::slope(b"dimension 4, depth 2", sheet, b"\0\x0F\0\x06\0\x04\0\x02");
+    ask::slope(b"dimension 4, depth 3", sheet, b"\0\x0F\0\x0E\0\x05\0\x03");
+    ask::slope(b"dimension 4, depth 3", sheet, b"\0\x0F\0\x0E\0\x0D\0\x05");
+    ask::slope(b"dimension 4, depth 0", sheet, b"\0\x02\0\x04\0\x06\0\x08");
+}
+
+fn slopes() {
+    slopes_in_roots(&SHEET);
+    slopes_in_corner(&CORNER);
+    slopes_in_three(&linear::THREE);
+    slopes_in_four(&linear::FOUR);
+}
+
 // "The listing program".
 fn listings() {
     ask::listed(&SHEET);
@@ -83,6 +124,7 @@ fn main() {
     whole_sheets();
     depths();
     coordinates();
+    slopes();
     listings();
     first_slips();
     other_slips();

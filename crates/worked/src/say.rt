@@ -1,7 +1,12 @@
 // What the program writes, part by part, to standard output.
 ghost use mathlib.Core.Path.{_≡_};
+ghost use mathlib.Core.Bool.{not};
 ghost use Prim.Native.Nat.{_<_};
+ghost use lib.Dec.{T};
+ghost use lib.Ieee.{isNan};
+ghost use Rattle.worked.specs.Slopes.{NoNan};
 use libc::STDOUT_FILENO;
+use slopes::Slopes;
 
 fn wide(b: u8) -> u64
     ensures { λ r. ⌜ (r ≡ b) × (r < 256) ⌝ }
@@ -45,6 +50,27 @@ pub fn four(first: u16, second: u16, third: u16, fourth: u16) {
     io::print_decimal(STDOUT_FILENO, third as u64);
     text(b" ");
     io::print_decimal(STDOUT_FILENO, fourth as u64);
+}
+
+// A number by its bits: -0.0 is another than +0.0.
+fn bits(x: f64)
+    requires { ⌜ T (not (isNan x)) ⌝ }
+{
+    io::print_hex(STDOUT_FILENO, f64::to_bits(x), 16);
+}
+
+// The end of a line: the slope on each of the four axes.
+pub fn slopes(on: Slopes)
+    requires { ⌜ NoNan on ⌝ }
+{
+    bits(on.first);
+    text(b" ");
+    bits(on.second);
+    text(b" ");
+    bits(on.third);
+    text(b" ");
+    bits(on.fourth);
+    text(b"\n");
 }
 
 // The end of a line: a code.

@@ -1,13 +1,14 @@
-//! The worked cases of document 01 that stand outside its proved set, and some for each slip: the text
-//! that the program `worked` is to write, each answer found by the second program. Compares it with what
+//! The worked cases of document 01 that stand outside its proved set, some for each slip, and slopes: the
+//! text that the program `worked` is to write, each answer found by the second program. Compares it with what
 //! the program writes and with the file that it is held to. `--print` writes the text and compares nothing.
 
 use second::compatible::compatible;
 use second::crossing;
 use second::entries;
 use second::finder::Finder;
+use second::linear;
 use second::listing::{listing, LIMIT};
-use second::queries::{leaf_at, value_at, Asked};
+use second::queries::{leaf_at, slope_at, value_at, Asked};
 use second::sheets::Sheets;
 use second::sizes::*;
 use second::worked;
@@ -101,7 +102,7 @@ impl Cases<'_> {
     }
 
     fn leaf(&mut self, x: u16, y: u16) {
-        let found = Asked::new(&self.sheets, &SHEET).find(&point(x, y));
+        let found = Asked::new(&self.sheets, &SHEET).find(&point(&[x, y]));
         let mut weights = [0; 6];
         let answer = leaf_at(&found, &mut weights);
         let leaf = format!("record {} weights {}", answer.number, pairs(&weights));
@@ -109,8 +110,23 @@ impl Cases<'_> {
     }
 
     fn value(&mut self, x: u16, y: u16) {
-        let answer = value_at(&Asked::new(&self.sheets, &SHEET).find(&point(x, y)));
+        let answer = value_at(&Asked::new(&self.sheets, &SHEET).find(&point(&[x, y])));
         self.line(&format!("value at {x} {y}"), told(answer.refusal, answer.value.to_string()));
+    }
+
+    fn slope(&mut self, case: &str, sheet: &[u8], at: &[u16]) {
+        let point = point(at);
+        let answer = slope_at(&Asked::new(&self.sheets, sheet).find(&point));
+        let bits = answer.bits().map(|number| format!("{number:016x}")).join(" ");
+        self.line(&format!("{case}: slope at {}", pairs(&point)), told(answer.refusal, bits));
+    }
+
+    /// In the leaf at a point of a good sheet, whose depth is the case.
+    fn slope_in_leaf(&mut self, sheet: &[u8], at: &[u16]) {
+        let number = leaf_at(&Asked::new(&self.sheets, sheet).find(&point(at)), &mut [0; 10]).number;
+        let leaves = self.sheets.leaves(sheet).expect("the sheet is good");
+        let case = format!("dimension {}, depth {}", at.len(), leaves[number].cell.depth);
+        self.slope(&case, sheet, at);
     }
 
     fn listing(&mut self, sheet: &[u8]) {
@@ -146,6 +162,30 @@ impl Cases<'_> {
         corners.iter().for_each(|(x, y)| self.value(*x, *y));
     }
 
+    fn slopes(&mut self) {
+        for at in [[1024, 512], [512, 1024], [4097, 512]] {
+            self.slope("sheet of 24 bytes", &SHEET, &at);
+        }
+        let corner = fs::read(CORNER).expect("the sheet is there");
+        for at in [[1024, 512], [3072, 512], [3584, 2048]] {
+            self.slope_in_leaf(&corner, &at);
+        }
+        let three = linear::sheet(&[-300, 200, 52]);
+        for at in [[2560, 1536, 512], [3584, 2048, 1024], [3584, 3072, 2048], [1024, 2048, 3072]] {
+            self.slope_in_leaf(&three, &at);
+        }
+        let four = linear::sheet(&[-300, 200, 0, -64]);
+        for at in [
+            [1792, 1280, 768, 256],
+            [3840, 1536, 1024, 512],
+            [3840, 3584, 1280, 768],
+            [3840, 3584, 3328, 1280],
+            [512, 1024, 1536, 2048],
+        ] {
+            self.slope_in_leaf(&four, &at);
+        }
+    }
+
     fn listings(&mut self) {
         self.listing(&SHEET);
         self.listing(&SHEET[..12]);
@@ -169,8 +209,8 @@ impl Cases<'_> {
     }
 }
 
-fn point(x: u16, y: u16) -> Vec<u8> {
-    [x.to_le_bytes(), y.to_le_bytes()].concat()
+fn point(coordinates: &[u16]) -> Vec<u8> {
+    coordinates.iter().flat_map(|x| x.to_le_bytes()).collect()
 }
 
 /// The first line that differs, and both versions of it.
@@ -191,6 +231,7 @@ fn main() {
     cases.sheets();
     cases.depths();
     cases.coordinates();
+    cases.slopes();
     cases.listings();
     cases.slips();
     let text = cases.text;
