@@ -53,7 +53,7 @@ pub fn fraction(sum: u64, side: u64) -> f64
     n / s
 }
 
-// A difference divided by a power of two: nothing is lost, and no difference gives +0.0.
+// A difference divided by a power of two: nothing is lost, and a difference of 0 gives +0.0.
 pub fn quotient(up: u64, down: u64, side: u64) -> f64
     requires { ⌜ (up < 2 ^ 53) × (down < 2 ^ 53) × Power side ⌝ }
     ensures { λ r. ⌜ Quotient r (subℕ up down) side ⌝ }

@@ -75,7 +75,8 @@ fn falling(first: u64, before: u64, split: usize, i: usize) -> u64
     before + common::pick(i < split, 0, common::pick(i == split, first, before))
 }
 
-// A difference over the box's side, by an entry's sign. A minus takes what rises for what falls, so that no difference is +0.0.
+// A difference over the box's side, by an entry's sign. For a minus the two change places: a float that is negated would be -0.0 where
+// nothing rises.
 fn by_sign(e: u8, up: u64, down: u64, side: u64) -> f64
     requires { ⌜ (up < 2 ^ 53) × (down < 2 ^ 53) × Power side ⌝ }
     ensures { λ r. ⌜ Quotient r (bySign (minus e) up down) side ⌝ }
