@@ -189,12 +189,13 @@ value-row {value = value} a = let b = a .leaf-shown in
 
 slope-row : {sheet point : List ℕ} {numbers : List ℤ} {side : ℕ} → SlopeShown sheet point numbers side → Holds (slope-at sheet point numbers side)
 unfolding Holds
-slope-row {numbers = numbers} {side = side} a = sheet-good (a .good-sheet) (slope-found {ns = numbers} {x = overSide side numbers} (a .passes) (a .leaf) (rw (a .side-is) (a .linear)) (rw (a .side-is) (record {
-  first = quotient-divided (a .small .0) (a .power);
-  second = quotient-divided (a .small .1) (a .power);
-  third = quotient-divided (a .small .2) (a .power);
-  fourth = quotient-divided (a .small .3) (a .power);
-})) refl)
+slope-row {numbers = numbers} {side = side} a = sheet-good (a .good-sheet) (slope-found {ns = numbers} {x = overSide side numbers} (a .passes) (a .leaf)
+    (rw (a .side-is) (a .linear)) (rw (a .side-is) (record {
+      first = quotient-divided (a .small .0) (a .power);
+      second = quotient-divided (a .small .1) (a .power);
+      third = quotient-divided (a .small .2) (a .power);
+      fourth = quotient-divided (a .small .3) (a .power);
+    })) refl)
 
 row : (r : Row) → Shown r → Holds r
 unfolding Shown Holds

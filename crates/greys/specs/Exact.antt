@@ -30,7 +30,11 @@ cube-power = record { log = halvings; few = omega (arith, halvings-few); is = re
 -- so is the side of every box
 pub box-power : (d D : ℕ) → 0 < d → D ≤ greatestDepth d → Power (boxSide d D)
 unfolding boxSide
-box-power d D d0 deep = record { log = halvings - boxDepth d D; few = omega (arith, halvings-few); is = eq-of-mul-eq-mul-left (2 ^ boxDepth d D) (pow-pos (boxDepth d D)) _ _ (side-whole (boxDepth d D) few ∙ whole) }
+box-power d D d0 deep = record {
+  log = halvings - boxDepth d D;
+  few = omega (arith, halvings-few);
+  is = eq-of-mul-eq-mul-left (2 ^ boxDepth d D) (pow-pos (boxDepth d D)) _ _ (side-whole (boxDepth d D) few ∙ whole);
+}
   where
     few : boxDepth d D ≤ halvings
     few = box-in d D d0 deep

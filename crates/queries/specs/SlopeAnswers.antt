@@ -36,7 +36,8 @@ pub record SlopesAt (mark : List ℕ) (width : ℕ) (sheet : List ℕ) (d : ℕ)
   pub leaf-at : LeafAt (good .cells) (pointOf point) number
   pub slopes : CellSlopes (leafIn (good .cells) number .root) (leafIn (good .cells) number .path) width (samplesOf (good .records) number) x
 
-module _ {mark : List ℕ} {width : ℕ} {sheet : List ℕ} {d : ℕ} {point : List ℕ} {r : Standing} (ready : ChoiceReady mark width sheet d point) (s : StandsIs mark width sheet d (pointOf point) r) where
+module _ {mark : List ℕ} {width : ℕ} {sheet : List ℕ} {d : ℕ} {point : List ℕ} {r : Standing} (ready : ChoiceReady mark width sheet d point)
+    (s : StandsIs mark width sheet d (pointOf point) r) where
   abbrev leaf : TreeCell
   leaf = leafIn (s .good .cells) (r .number)
 
@@ -61,7 +62,8 @@ module _ {mark : List ℕ} {width : ℕ} {sheet : List ℕ} {d : ℕ} {point : L
     behind = omega (arith, length-is)
 
     samples-in : slice sheet (r .offset + length mark + n) m ≡ samplesOf (s .good .records) (r .number)
-    samples-in = slice-at sheet (r .offset + length mark + n) m ∙ ap (λ (k : ℕ). take m (drop k sheet)) behind ∙ ap (λ (k : ℕ). take k (drop (r .offset + (length mark + codeLength (s .good .dimension) (length (leaf .path)))) sheet)) size-is ∙ s .stands .samples-are
+    samples-in = slice-at sheet (r .offset + length mark + n) m ∙ ap (λ (k : ℕ). take m (drop k sheet)) behind
+        ∙ ap (λ (k : ℕ). take k (drop (r .offset + (length mark + codeLength (s .good .dimension) (length (leaf .path)))) sheet)) size-is ∙ s .stands .samples-are
 
     code-of : IsCodeOf (slice sheet (r .offset + length mark) n) (leaf .root) (leaf .path)
     code-of = subst (λ (l : List ℕ). IsCodeOf l (leaf .root) (leaf .path)) (sym code-in) (code-of-cell (cell .0))
@@ -70,7 +72,13 @@ module _ {mark : List ℕ} {width : ℕ} {sheet : List ℕ} {d : ℕ} {point : L
     samples-room = slice-length sheet (r .offset + length mark + n) m slopes-end
 
     pub slopes-ready : width ≤ 3 → SlopesReady (slice sheet (r .offset + length mark) n) width (slice sheet (r .offset + length mark + n) m)
-    slopes-ready narrow = record { root = leaf .root; path = leaf .path; of = code-of; room = omega (arith, samples-room, size-is, ap (λ (k : ℕ). width * suc k) (cell .1)); narrow = narrow }
+    slopes-ready narrow = record {
+      root = leaf .root;
+      path = leaf .path;
+      of = code-of;
+      room = omega (arith, samples-room, size-is, ap (λ (k : ℕ). width * suc k) (cell .1));
+      narrow = narrow;
+    }
 
     pub slopes-are : {x : Slopes} → SlopesOf (slice sheet (r .offset + length mark) n) width (slice sheet (r .offset + length mark + n) m) x → SlopesAt mark width sheet d point x
     slopes-are {x} o = record {
@@ -89,16 +97,19 @@ module _ {sheet : List ℕ} {o : Opened} (s : OpenedIs sheet o) where
   pub slope-shut : {point : List ℕ} → (o .refusal ≡ 0 → ⊥) → SlopeIs sheet point (Refused (o .refusal) (o .offset))
   slope-shut k = query-shut s (λ number offset. Refused (o .refusal) (o .offset) ≡ Refused number offset) k refl
 
-  pub slope-no-point : (h : o .refusal ≡ 0) {a : ℕ} → a ≡ o .dimension → {point : List ℕ} {b : Bool} → b ≡ isPoint a point → not b ≡ true → SlopeIs sheet point (Refused 12 0)
+  pub slope-no-point : (h : o .refusal ≡ 0) {a : ℕ} → a ≡ o .dimension → {point : List ℕ} {b : Bool} → b ≡ isPoint a point → not b ≡ true
+      → SlopeIs sheet point (Refused 12 0)
   slope-no-point h is {point} test e = sheet-good (it s h .good-sheet) (slope-refused (point-is s h is point ∙ sym test ∙ not-true _ e) refl)
 
 -- ---- the edition of document 01
 
-pub slopes-first : {e : Edition} {sheet point : List ℕ} {d : ℕ} → IsFirst e → ChoiceReady sheetMark sampleWidth sheet d point → ChoiceReady (markOf e) (e .width) sheet d point × (e .width ≤ 3)
+pub slopes-first : {e : Edition} {sheet point : List ℕ} {d : ℕ} → IsFirst e → ChoiceReady sheetMark sampleWidth sheet d point
+    → ChoiceReady (markOf e) (e .width) sheet d point × (e .width ≤ 3)
 slopes-first f r = (ready-first f r, omega (arith, f .width-is))
 
 pub slope-done : {e : Edition} {sheet point : List ℕ} {d : ℕ} {x : Slopes} → IsFirst e → SlopesAt (markOf e) (e .width) sheet d point x → SlopeIs sheet point (Along x)
-slope-done {e} {sheet} {point} {d} {x} f c = go (subst (λ (w : ℕ). SlopesAt sheetMark w sheet d point x) (f .width-is) (subst (λ (m : List ℕ). SlopesAt m (e .width) sheet d point x) (f .mark-is) c))
+slope-done {e} {sheet} {point} {d} {x} f c = go (subst (λ (w : ℕ). SlopesAt sheetMark w sheet d point x) (f .width-is)
+    (subst (λ (m : List ℕ). SlopesAt m (e .width) sheet d point x) (f .mark-is) c))
   where
     go : SlopesAt sheetMark sampleWidth sheet d point x → SlopeIs sheet point (Along x)
     go c = sheet-good (c .good) (slope-found (rw (c .axes) (c .passes)) (c .leaf-at) (c .slopes .linear) (c .slopes .components) refl)

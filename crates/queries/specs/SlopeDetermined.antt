@@ -29,13 +29,15 @@ use Rattle.queries.specs.Determined.{same-leaf, good-leaf, same-samples,
 module _ {sheet : List ℕ} {n m : ℕ} (g : Good sheet n) (h : Good sheet m) {p : Point} {i j : ℕ} (a : LeafAt (g .cells) p i) (b : LeafAt (h .cells) p j) where
   same-numbers : {ns us : List ℤ} → Linear (sideIn (g .cells) i) (cellIn (g .cells) i) (sampleAt sampleWidth (samplesOf (g .records) i)) ns
       → Linear (sideIn (h .cells) j) (cellIn (h .cells) j) (sampleAt sampleWidth (samplesOf (h .records) j)) us → ns ≡ us
-  same-numbers {us = us} l k = one .others l ∙ sym (one .others (subst (λ (c : TreeCell). through c (samplesOf (g .records) i)) (sym (same-leaf g h a b)) (subst (through (leafIn (h .cells) j)) (sym (same-samples g h a b)) k)))
+  same-numbers {us = us} l k = one .others l ∙ sym (one .others (subst (λ (c : TreeCell). through c (samplesOf (g .records) i)) (sym (same-leaf g h a b))
+      (subst (through (leafIn (h .cells) j)) (sym (same-samples g h a b)) k)))
     where
       through : TreeCell → List ℕ → Type 0
       through c samples = Linear (boxSide (length (c .root)) (length (c .path))) (cellOf (c .root) (c .path)) (sampleAt sampleWidth samples) us
 
       one : OneSlope (leafIn (g .cells) i .root) (leafIn (g .cells) i .path) (sampleAt sampleWidth (samplesOf (g .records) i))
-      one = one-slope (leafIn (g .cells) i .root) (leafIn (g .cells) i .path) (good-leaf g h a b .0 .good-root) (good-leaf g h a b .0 .good-path .depth) (sampleAt sampleWidth (samplesOf (g .records) i))
+      one = one-slope (leafIn (g .cells) i .root) (leafIn (g .cells) i .path) (good-leaf g h a b .0 .good-root) (good-leaf g h a b .0 .good-path .depth)
+          (sampleAt sampleWidth (samplesOf (g .records) i))
 
 pub slope-determined : {sheet point : List ℕ} {v u : Slope} → SlopeIs sheet point v → SlopeIs sheet point u → v ≡ u
 slope-determined {sheet} {point} {v} {u} q t = query-one q t (λ number offset x y. x ∙ sym y) on

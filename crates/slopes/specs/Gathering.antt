@@ -206,7 +206,8 @@ module _ {code : List ℕ} {width : ℕ} {samples : List ℕ} {d side entries sp
       component a h n = rw (← side-is) (go (decLe a (length root)))
         where
           has : (t : Stands (entriesOf code) a (dimensionOf code)) → Quotient (getD on (a - 1) nan) (onAxis (one .numbers) a) side
-          has t = subst (λ (b : ℕ). Quotient (getD on (b - 1) nan) (onAxis (one .numbers) b) side) (t .is) (rw (number-is (t .place) (t .below)) (g .there (t .place) (omega (arith, t .below, g .axes))))
+          has t = subst (λ (b : ℕ). Quotient (getD on (b - 1) nan) (onAxis (one .numbers) b) side) (t .is)
+              (rw (number-is (t .place) (t .below)) (g .there (t .place) (omega (arith, t .below, g .axes))))
 
           past : (u : length root < a) (t : ℕ) → t < i → placeIn code t ≢ a - 1
           past u t m z = omega (arith, axes-are, signed .high t (omega (arith, g .few, g .axes)))
@@ -219,5 +220,10 @@ module _ {code : List ℕ} {width : ℕ} {samples : List ℕ} {d side entries sp
       gather-end = record {
         numbers = one .numbers;
         linear = one .slope;
-        components = record { first = component 1 (omega arith) (omega arith); second = component 2 (omega arith) (omega arith); third = component 3 (omega arith) (omega arith); fourth = component 4 (omega arith) (omega arith) };
+        components = record {
+          first = component 1 (omega arith) (omega arith);
+          second = component 2 (omega arith) (omega arith);
+          third = component 3 (omega arith) (omega arith);
+          fourth = component 4 (omega arith) (omega arith);
+        };
       }

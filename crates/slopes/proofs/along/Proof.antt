@@ -16,7 +16,8 @@ returns c =
     let start : tie.Start = search in
     let up : tie.After-rising = search in
     let down : tie.After-falling = search in
-    along-is (minus (start .args .e)) (start .args .split) (start .args .i) (start .args .first) (start .args .before) (start .args .next) (up .rising .ensures) (down .falling .ensures) (c .by-sign .ensures)
+    along-is (minus (start .args .e)) (start .args .split) (start .args .i) (start .args .first) (start .args .before) (start .args .next)
+    (up .rising .ensures) (down .falling .ensures) (c .by-sign .ensures)
 
 pub along-spec : {M : Type 1} → statement M
 along-spec = tie.close (tie.spec (λ c κs. search needs) (λ c κs. search needs) by-sign-requires returns)

@@ -77,8 +77,10 @@ in-cell-spec =
     μ-loop
     (λ c κs. let start : tie.Start Inv-loop μ-loop = search in ready-passes (start .pre))
     (λ c κs. let start : tie.Start Inv-loop μ-loop = search in (ready-passes (start .pre), c .axes-of .ensures))
-    (λ c κs. let start : tie.Start Inv-loop μ-loop = search in let axes : tie.After-axes-of Inv-loop μ-loop = search in frame-entries _ (ready-passes (start .pre)) (axes .axes-of .ensures))
-    (λ c κs. let start : tie.Start Inv-loop μ-loop = search in let axes : tie.After-axes-of Inv-loop μ-loop = search in frame-split _ (ready-passes (start .pre)) (axes .axes-of .ensures))
+    (λ c κs. let start : tie.Start Inv-loop μ-loop = search in let axes : tie.After-axes-of Inv-loop μ-loop = search in
+    frame-entries _ (ready-passes (start .pre)) (axes .axes-of .ensures))
+    (λ c κs. let start : tie.Start Inv-loop μ-loop = search in let axes : tie.After-axes-of Inv-loop μ-loop = search in
+    frame-split _ (ready-passes (start .pre)) (axes .axes-of .ensures))
     (λ c κs. search needs)
     sample-requires
     loop-holds

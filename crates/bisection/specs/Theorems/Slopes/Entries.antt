@@ -85,7 +85,8 @@ module _ {d D : ℕ} {m : Name} {vs : Cell} (d0 : 0 < d) (deep : D ≤ greatestD
     axes-by-entries g (onOne j i),
     offsets-two i j l n,
     offsets-two j i n l,
-    sums-balance d (λ t. onOne i j (axis (entry m t))) (λ t. up t * offset s t k j + down t * offset s t k i) (λ t. onOne j i (axis (entry m t))) (λ t. up t * offset s t k i + down t * offset s t k j)
+    sums-balance d (λ t. onOne i j (axis (entry m t))) (λ t. up t * offset s t k j + down t * offset s t k i)
+        (λ t. onOne j i (axis (entry m t))) (λ t. up t * offset s t k i + down t * offset s t k j)
         (λ t h. axis-balance (minus (entry m t)) (over (onAxis ns (axis (entry m t)))) (under (onAxis ns (axis (entry m t)))) (along vs (axis (entry m t)) 0) (along vs (axis (entry m t)) i)
         (along vs (axis (entry m t)) j) (offset s t k i) (offset s t k j) (away d0 deep r t h i (omega arith)) (away d0 deep r t h j (omega arith))),
   )

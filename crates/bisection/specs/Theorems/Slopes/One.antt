@@ -78,7 +78,8 @@ module _ {d D : ℕ} {m : Name} {vs : Cell} (d0 : 0 < d) (deep : D ≤ greatestD
   drawn-one {ns} {us} h n = ext-getD (pos 0) ns us (omega (arith, h .count, n .count)) (λ t l. same t (omega (arith, h .count, r .sized .size)))
     where
       same : (t : ℕ) → t < d → getD ns t (pos 0) ≡ getD us t (pos 0)
-      same t l = let p : Stands (m .entries) (suc t) d = stands g (suc t) (omega arith) l in simp unary-clauses at rw (p .is) at (drawn-closed ns h (p .place) (p .below) ∙ sym (drawn-closed us n (p .place) (p .below)))
+      same t l = let p : Stands (m .entries) (suc t) d = stands g (suc t) (omega arith) l in
+          simp unary-clauses at rw (p .is) at (drawn-closed ns h (p .place) (p .below) ∙ sym (drawn-closed us n (p .place) (p .below)))
 
   -- and one: on each axis the number of the entry that stands there
   abbrev Standing : ℕ → ℤ → Type 0
