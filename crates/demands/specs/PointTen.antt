@@ -1,14 +1,12 @@
 -- Points of the two-root sheet whose leaf is record 0, those of x1 at least x2: P10 of document 01, where at (1024,1024) the weights are
 -- 3072, 0, 1024 and the value is 20, and (1024,512) of request No. 1.
 use mathlib.Core.Path.{_≡_, refl}
-use mathlib.Core.Bool.{true}
 use mathlib.Core.List.{List, [], _∷_}
-use Prim.Native.Nat.{ℕ, zero, suc, _-_, _*_, _≤_, _<_}
+use Prim.Native.Nat.{ℕ, zero, suc, _-_, _*_, _≤_}
 use native.Mathlib.Omega.{arith}
-use Rattle.dimension.specs.Sizes.{isDimension, halvings, cubeSide, sideAfter, boxSide, boxDepth, splitPlace, level}
-use Rattle.bisection.specs.Cells.{Point, coordinate, cellOf, cellBelow, rootCell, corners, moved, child, midpoint}
-use Rattle.bisection.specs.Roots.{roots, arrangements, joined, picks, axesFrom}
-use Rattle.bisection.specs.Weights.{sumTo, total, weighted, Weighs}
+use Rattle.dimension.specs.Sizes.{halvings, cubeSide, sideAfter, boxSide, boxDepth}
+use Rattle.bisection.specs.Cells.{coordinate, cellOf, cellBelow, rootCell, corners, moved}
+use Rattle.bisection.specs.Weights.{sumTo, total, weighted}
 use Rattle.queries.specs.Queries.{cellIn, LeafAt, LeafWeights}
 use Rattle.demands.specs.TwoLeaves.{two-leaves}
 

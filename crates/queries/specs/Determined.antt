@@ -34,7 +34,7 @@ use Rattle.greys.specs.declared.ValueAnswer.{ValueAnswer}
 use Rattle.greys.specs.declared.Value.{Value}
 use Rattle.greys.specs.declared.Value.the-variants.{Grey, Refused}
 use Rattle.queries.specs.declared.LeafAnswer.{LeafAnswer}
-use Rattle.queries.specs.Queries.{cellIn, sideIn, LeafAt, LeafWeights, weightsLength, leafRefusal, leafTold, LeafOn, leaf-refused, leaf-found, LeafIs, ValueOn, value-refused, value-found, ValueIs, FlatValueIs}
+use Rattle.queries.specs.Queries.{sideIn, LeafAt, LeafWeights, weightsLength, leafRefusal, leafTold, LeafOn, leaf-refused, leaf-found, LeafIs, ValueOn, value-refused, value-found, ValueIs, FlatValueIs}
 use Rattle.finding.specs.Walk.{leaf-good}
 
 -- there is one leaf at a point

@@ -1,10 +1,10 @@
 -- The answer of the slope query, put together: the check of the sheet, the leaf's code and samples, its slopes.
 use mathlib.Core.Path.{_≡_, refl, sym, ap, _∙_, subst}
-use mathlib.Core.Bool.{Bool, true, false, not}
+use mathlib.Core.Bool.{Bool, true, not}
 use mathlib.Core.List.{List}
 use Prim.Native.Nat.{ℕ, suc, _+_, _-_, _*_, _≤_}
 use native.Mathlib.Omega.{arith}
-use lib.ListN.{length, take, drop, length-take, length-drop}
+use lib.ListN.{length, take, drop}
 use borrow.Author.Tests.{not-true}
 use Rattle.dimension.specs.Sizes.{codeLength}
 use Rattle.bisection.specs.Codes.{codeOf, IsCodeOf}
@@ -23,7 +23,7 @@ use Rattle.finding.specs.Walk.{leaf-good}
 use Rattle.queries.specs.declared.Standing.{Standing}
 use Rattle.queries.specs.Queries.{LeafAt}
 use Rattle.queries.specs.SlopeQueries.{slope-refused, slope-found, SlopeIs}
-use Rattle.queries.specs.Choice.{ChoiceReady, StandsIs}
+use Rattle.queries.specs.Choice.{ChoiceReady, StandsIs, stands-room}
 use Rattle.queries.specs.Answers.{slice, slice-at, slice-length, query-shut, it, point-is, ready-first}
 
 -- the slopes in the leaf at a point of a good sheet
@@ -36,59 +36,62 @@ pub record SlopesAt (mark : List ℕ) (width : ℕ) (sheet : List ℕ) (d : ℕ)
   pub leaf-at : LeafAt (good .cells) (pointOf point) number
   pub slopes : CellSlopes (leafIn (good .cells) number .root) (leafIn (good .cells) number .path) width (samplesOf (good .records) number) x
 
-module _ {mark : List ℕ} {width : ℕ} {sheet : List ℕ} {d : ℕ} {point : List ℕ} {r : Standing} (ready : ChoiceReady mark width sheet d point)
-    (s : StandsIs mark width sheet d (pointOf point) r) where
+module _ {e : Edition} {sheet : List ℕ} {d : ℕ} {point : List ℕ} {r : Standing} (ready : ChoiceReady (markOf e) (e .width) sheet d point × (e .width ≤ 3))
+    (s : StandsIs (markOf e) (e .width) sheet d (pointOf point) r) where
   abbrev leaf : TreeCell
   leaf = leafIn (s .good .cells) (r .number)
 
   cell : GoodCell leaf × (length (leaf .root) ≡ s .good .dimension)
   cell = leaf-good (s .good) (r .number) (s .leaf-at .number)
 
+  pub code-end : {a n : ℕ} → a ≡ d → n ≡ codeLength a (r .depth) → r .offset + length (markOf e) + n ≤ length sheet
+  code-end is code-is = omega (arith, stands-room s is code-is)
+
   -- n is the code's length and m that of the samples
-  module _ {a n m : ℕ} (is : a ≡ d) (code-is : n ≡ codeLength a (r .depth)) (samples-are : m ≡ width * suc d) where
+  module _ {a n m : ℕ} (is : a ≡ d) (code-is : n ≡ codeLength a (r .depth)) (samples-are : (m ≡ e .width * suc d) × (m ≤ 65536)) where
     length-is : n ≡ codeLength (s .good .dimension) (length (leaf .path))
     length-is = code-is ∙ rw (is, s .axes, s .depth-is) refl
 
-    size-is : m ≡ width * suc (s .good .dimension)
-    size-is = samples-are ∙ rw (s .axes) refl
+    size-is : m ≡ e .width * suc (s .good .dimension)
+    size-is = samples-are .0 ∙ rw (s .axes) refl
 
-    pub slopes-end : r .offset + length mark + n + m ≤ length sheet
+    pub slopes-end : r .offset + length (markOf e) + n + m ≤ length sheet
     slopes-end = omega (arith, s .stands .room, length-is, size-is)
 
-    code-in : slice sheet (r .offset + length mark) n ≡ codeOf (leaf .root) (leaf .path)
-    code-in = slice-at sheet (r .offset + length mark) n ∙ ap (λ (k : ℕ). take k (drop (r .offset + length mark) sheet)) length-is ∙ s .stands .code-is
+    code-in : slice sheet (r .offset + length (markOf e)) n ≡ codeOf (leaf .root) (leaf .path)
+    code-in = slice-at sheet (r .offset + length (markOf e)) n ∙ ap (λ (k : ℕ). take k (drop (r .offset + length (markOf e)) sheet)) length-is ∙ s .stands .code-is
 
-    behind : r .offset + length mark + n ≡ r .offset + (length mark + codeLength (s .good .dimension) (length (leaf .path)))
+    behind : r .offset + length (markOf e) + n ≡ r .offset + (length (markOf e) + codeLength (s .good .dimension) (length (leaf .path)))
     behind = omega (arith, length-is)
 
-    samples-in : slice sheet (r .offset + length mark + n) m ≡ samplesOf (s .good .records) (r .number)
-    samples-in = slice-at sheet (r .offset + length mark + n) m ∙ ap (λ (k : ℕ). take m (drop k sheet)) behind
-        ∙ ap (λ (k : ℕ). take k (drop (r .offset + (length mark + codeLength (s .good .dimension) (length (leaf .path)))) sheet)) size-is ∙ s .stands .samples-are
+    samples-in : slice sheet (r .offset + length (markOf e) + n) m ≡ samplesOf (s .good .records) (r .number)
+    samples-in = slice-at sheet (r .offset + length (markOf e) + n) m ∙ ap (λ (k : ℕ). take m (drop k sheet)) behind
+        ∙ ap (λ (k : ℕ). take k (drop (r .offset + (length (markOf e) + codeLength (s .good .dimension) (length (leaf .path)))) sheet)) size-is ∙ s .stands .samples-are
 
-    code-of : IsCodeOf (slice sheet (r .offset + length mark) n) (leaf .root) (leaf .path)
+    code-of : IsCodeOf (slice sheet (r .offset + length (markOf e)) n) (leaf .root) (leaf .path)
     code-of = subst (λ (l : List ℕ). IsCodeOf l (leaf .root) (leaf .path)) (sym code-in) (code-of-cell (cell .0))
 
-    samples-room : length (slice sheet (r .offset + length mark + n) m) ≡ m
-    samples-room = slice-length sheet (r .offset + length mark + n) m slopes-end
+    samples-room : length (slice sheet (r .offset + length (markOf e) + n) m) ≡ m
+    samples-room = slice-length sheet (r .offset + length (markOf e) + n) m slopes-end
 
-    pub slopes-ready : width ≤ 3 → SlopesReady (slice sheet (r .offset + length mark) n) width (slice sheet (r .offset + length mark + n) m)
-    slopes-ready narrow = record {
+    pub slopes-ready : SlopesReady (slice sheet (r .offset + length (markOf e)) n) (e .width) (slice sheet (r .offset + length (markOf e) + n) m)
+    slopes-ready = record {
       root = leaf .root;
       path = leaf .path;
       of = code-of;
-      room = omega (arith, samples-room, size-is, ap (λ (k : ℕ). width * suc k) (cell .1));
-      narrow = narrow;
+      room = omega (arith, samples-room, size-is, ap (λ (k : ℕ). e .width * suc k) (cell .1));
+      narrow = ready .1;
     }
 
-    pub slopes-are : {x : Slopes} → SlopesOf (slice sheet (r .offset + length mark) n) width (slice sheet (r .offset + length mark + n) m) x → SlopesAt mark width sheet d point x
+    pub slopes-are : {x : Slopes} → SlopesOf (slice sheet (r .offset + length (markOf e)) n) (e .width) (slice sheet (r .offset + length (markOf e) + n) m) x → SlopesAt (markOf e) (e .width) sheet d point x
     slopes-are {x} o = record {
       count = s .count;
       good = s .good;
       axes = s .axes;
-      passes = ready .passes;
+      passes = ready .0 .passes;
       number = r .number;
       leaf-at = s .leaf-at;
-      slopes = subst (λ (l : List ℕ). CellSlopes (leaf .root) (leaf .path) width l x) samples-in (o .of (leaf .root) (leaf .path) code-of);
+      slopes = subst (λ (l : List ℕ). CellSlopes (leaf .root) (leaf .path) (e .width) l x) samples-in (o .of (leaf .root) (leaf .path) code-of);
     }
 
 -- ---- a checked sheet

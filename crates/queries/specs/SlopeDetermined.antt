@@ -17,7 +17,6 @@ use Rattle.points.specs.Points.{isPoint}
 use Rattle.greys.specs.Samples.{sampleAt}
 use Rattle.slopes.specs.Slopes.{Components, flatOf}
 use Rattle.slopes.specs.Determined.{components-one}
-use Rattle.slopes.specs.declared.Slopes.{Slopes}
 use Rattle.slopes.specs.declared.Slope.{Slope}
 use Rattle.slopes.specs.declared.Slope.the-variants.{Along}
 use Rattle.slopes.specs.declared.SlopeAnswer.{SlopeAnswer}

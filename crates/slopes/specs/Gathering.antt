@@ -1,7 +1,6 @@
 -- The walk over a code's entries: the slopes along the first i are on their axes, and the other axes have +0.0. At its end these are the
 -- slopes of the code's cell.
 use mathlib.Core.Path.{_≡_, refl, sym, ap, _∙_, subst}
-use mathlib.Core.Bool.{Bool, true, false, cond}
 use mathlib.Core.List.{List, [], _∷_}
 use mathlib.Core.Logic.{_≢_}
 use Prim.Native.Nat.{ℕ, zero, suc, _+_, _-_, _*_, _^_, _≤_, _<_}

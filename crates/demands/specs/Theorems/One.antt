@@ -1,6 +1,5 @@
 -- Demand 1 holds: each part from the contract of its entry.
-use mathlib.Core.Path.{_≡_, refl, sym, ap, _∙_, subst}
-use mathlib.Core.Bool.{true, false}
+use mathlib.Core.Path.{_≡_, refl, ap, _∙_}
 use mathlib.Core.List.{List, [], _∷_}
 use mathlib.Core.Logic.{_≢_}
 use Prim.Native.Nat.{ℕ, _≤_, _<_}
@@ -11,16 +10,15 @@ use Rattle.bisection.specs.Codes.{dimensionOf}
 use Rattle.bisection.specs.Refusals.{done, codeRefusal}
 use Rattle.codes.specs.declared.Written.{Written}
 use Rattle.codes.specs.declared.PathWritten.{PathWritten}
-use Rattle.codes.specs.Outcomes.{Writes, PathToCode, CodeToPath, toPathRefusal}
+use Rattle.codes.specs.Outcomes.{Writes, CodeToPath}
 use Rattle.crossing.specs.declared.Crossed.{Crossed}
 use Rattle.crossing.specs.Outcome.{Refuses, Crosses, Meets, wall, short, crossed}
-use Rattle.sheets.specs.declared.SheetAnswer.{SheetAnswer}
-use Rattle.sheets.specs.Sheets.{Good, Query, sheet-refused, sheet-good}
+use Rattle.sheets.specs.Sheets.{Good, sheet-refused, sheet-good}
 use Rattle.queries.specs.declared.LeafAnswer.{LeafAnswer}
 use Rattle.queries.specs.Queries.{LeafIs, LeafOn, leaf-refused, leaf-found, leafTold, ValueOn, value-refused, value-found, FlatValueIs}
 use Rattle.greys.specs.declared.ValueAnswer.{ValueAnswer}
 use Rattle.greys.specs.declared.Value.{Value}
-use Rattle.greys.specs.declared.Value.the-variants.{Grey, Refused}
+use Rattle.greys.specs.declared.Value.the-variants.{Refused}
 use Rattle.greys.specs.Fractions.{plusZero}
 use Rattle.greys.specs.Values.{flatOf}
 use Rattle.queries.specs.SlopeQueries.{SlopeOn, slope-refused, slope-found, FlatSlopeIs}

@@ -35,33 +35,12 @@ along-requires c κs =
     let g = turn .before .loop .inv in
     (g .first-is .1, g .before-is .1, next .sample2 .ensures .1, gather-power g (turn .loop-test .taken))
 
-place-requires : tie.Need-place-requires Inv-loop μ-loop
-place-requires c κs =
-    let turn : tie.In-loop Inv-loop μ-loop = search in
-    let entry : tie.After-byte-at Inv-loop μ-loop = search in
-    gather-axis (turn .before .loop .inv) (turn .loop-test .taken) (entry .byte-at .ensures)
-
-array-write-on : tie.Need-array-write-on Inv-loop μ-loop
-array-write-on c =
-    let turn : tie.In-loop Inv-loop μ-loop = search in
-    let entry : tie.After-byte-at Inv-loop μ-loop = search in
-    let place : tie.After-place Inv-loop μ-loop = search in
-    gather-place (turn .before .loop .inv) (turn .loop-test .taken) (entry .byte-at .ensures) (place .place .ensures)
-
 mul-on : tie.Need-mul-on Inv-loop μ-loop
 mul-on c =
     let turn : tie.In-loop Inv-loop μ-loop = search in
     let entry : tie.After-byte-at Inv-loop μ-loop = search in
     let place : tie.After-place Inv-loop μ-loop = search in
     record { fits = omega (arith, gather-place (turn .before .loop .inv) (turn .loop-test .taken) (entry .byte-at .ensures) (place .place .ensures)) }
-
-loop-again : tie.Need-loop-again Inv-loop μ-loop
-loop-again c =
-    let turn : tie.In-loop Inv-loop μ-loop = search in
-    let next : tie.After-sample2 Inv-loop μ-loop = search in
-    let entry : tie.After-byte-at Inv-loop μ-loop = search in
-    let place : tie.After-place Inv-loop μ-loop = search in
-    gather-next (turn .before .loop .inv) (turn .loop-test .taken) (entry .byte-at .ensures) (next .sample2 .ensures) (place .place .ensures) (c .along .ensures)
 
 returns : tie.Need-returns Inv-loop μ-loop
 returns c =
@@ -75,7 +54,7 @@ in-cell-spec =
     (tie.spec
     Inv-loop
     μ-loop
-    (λ c κs. let start : tie.Start Inv-loop μ-loop = search in ready-passes (start .pre))
+    (λ c κs. search (needs, ready-passes))
     (λ c κs. let start : tie.Start Inv-loop μ-loop = search in (ready-passes (start .pre), c .axes-of .ensures))
     (λ c κs. let start : tie.Start Inv-loop μ-loop = search in let axes : tie.After-axes-of Inv-loop μ-loop = search in
     frame-entries _ (ready-passes (start .pre)) (axes .axes-of .ensures))
@@ -86,14 +65,14 @@ in-cell-spec =
     loop-holds
     (λ c. search needs)
     (λ c κs. let turn : tie.In-loop Inv-loop μ-loop = search in gather-sample (turn .before .loop .inv) (turn .loop-test .taken))
-    (λ c κs. let turn : tie.In-loop Inv-loop μ-loop = search in gather-entry (turn .before .loop .inv) (turn .loop-test .taken))
-    place-requires
+    (λ c κs. search (needs, gather-entry))
+    (λ c κs. search (needs, gather-axis))
     along-requires
     mul-on
-    array-write-on
+    (λ c. search (needs, gather-place))
     (λ c. search needs)
     (λ c. search needs)
-    loop-again
+    (λ c. search (needs, gather-next))
     (λ c. search needs)
     (λ c. search needs)
     (λ c. search needs)

@@ -1,15 +1,14 @@
 -- The equations of a cell's vertices are those along its entries: on an entry's axis vertex j is its offset away from vertex 0, by the
 -- entry's sign, and the entry's number with that sign is p less q.
-use mathlib.Core.Path.{_≡_, refl, sym, ap, _∙_}
+use mathlib.Core.Path.{_≡_, refl, ap, _∙_}
 use mathlib.Core.Bool.{Bool, true, false, cond}
 use mathlib.Core.List.{List}
-use Prim.Native.Nat.{ℕ, zero, suc, _+_, _*_, _/_, _%_, _≤_, _<_}
+use Prim.Native.Nat.{ℕ, zero, suc, _+_, _*_, _≤_, _<_}
 use native.Mathlib.Omega.{arith}
 use native.Mathlib.Decide.{ℕ-discrete}
 use lib.IntN.{ℤ, pos, subℕ, _*ℤ_}
-use lib.ListN.{length, getD}
+use lib.ListN.{length}
 use Rattle.dimension.specs.Sizes.{greatestDepth, splitPlace, boxSide}
-use Rattle.dimension.specs.Laws.{side-of}
 use Rattle.bisection.specs.Cells.{Cell}
 use Rattle.bisection.specs.Codes.{axis, minus, Name}
 use Rattle.bisection.specs.Weights.{sumTo}

@@ -1,6 +1,6 @@
 -- Every cell of the bisection has exactly one slope, whatever stands at its vertices, for every dimension; and its closed form: on the
 -- axis of entry i, by the entry's sign, what rises along it less what falls.
-use mathlib.Core.Path.{_≡_, refl, sym, ap, _∙_, subst}
+use mathlib.Core.Path.{_≡_, refl, sym, ap, _∙_}
 use mathlib.Core.Bool.{Bool, true, false, cond}
 use mathlib.Core.List.{List, [], _∷_}
 use Prim.Native.Nat.{ℕ, zero, suc, _+_, _-_, _≤_, _<_}
@@ -19,8 +19,8 @@ use Rattle.bisection.specs.Theorems.Entries.{Signed, Stands, stands}
 use Rattle.bisection.specs.Theorems.Drawn.{Drawn, entry}
 use Rattle.bisection.specs.Theorems.Geometry.{closed-form}
 use Rattle.bisection.specs.Theorems.CodePaths.{some-axes, name-passes}
-use Rattle.bisection.specs.Theorems.Slopes.Differences.{over, under, Less, less-own, less-one, less-sub}
-use Rattle.bisection.specs.Theorems.Slopes.Rising.{rising, falling, Balanced, Front, balanced-front, front-balanced, fronts-rise, fronts}
+use Rattle.bisection.specs.Theorems.Slopes.Differences.{over, under, less-one, less-sub}
+use Rattle.bisection.specs.Theorems.Slopes.Rising.{rising, falling, Front, balanced-front, front-balanced, fronts-rise, fronts}
 use Rattle.bisection.specs.Theorems.Slopes.Entries.{up, down, slope-balanced, balanced-slope}
 
 -- p less q by a sign

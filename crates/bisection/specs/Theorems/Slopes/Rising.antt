@@ -1,7 +1,7 @@
 -- Along the entries. The numbers of a slope, each with its entry's sign, are p 0 less q 0, .. , p (d - 1) less q (d - 1). A vertex j up
 -- to k is the first j entries' sides away from vertex 0, one past k their half sides. So the equations of vertex 0 and each other vertex
 -- are equations of the first sums of p and q, and those say what p i less q i is, entry by entry.
-use mathlib.Core.Path.{_≡_, refl, ap}
+use mathlib.Core.Path.{_≡_, ap}
 use mathlib.Core.Bool.{cond}
 use Prim.Native.Nat.{ℕ, zero, suc, _+_, _*_, _/_, _%_, _≤_, _<_}
 use native.Mathlib.Omega.{arith}
