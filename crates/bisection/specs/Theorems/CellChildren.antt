@@ -47,7 +47,7 @@ longer b [] = record { front = []; last = b; is = refl }
 longer b (x ∷ path) = let s = longer x path in record { front = b ∷ s .front; last = s .last; is = ap (λ (l : List ℕ). b ∷ l) (s .is) }
 
 -- a good path with a step more, where it is not the deepest
-one-step-more : {d : ℕ} {path : List ℕ} {b : ℕ} → GoodPath d path → b ≤ 1 → length path < greatestDepth d → GoodPath d (path ++ b ∷ [])
+pub one-step-more : {d : ℕ} {path : List ℕ} {b : ℕ} → GoodPath d path → b ≤ 1 → length path < greatestDepth d → GoodPath d (path ++ b ∷ [])
 one-step-more {d} {path} {b} p w l = record { steps = λ i h. go i (omega (arith, more)) (decLt i (length path)); depth = omega (arith, more) }
   where
     more : length (path ++ b ∷ []) ≡ suc (length path)

@@ -9,3 +9,5 @@ pub mod Agreement
 pub mod Siblings
 -- Crossing keeps the place, but between the two children of a cell.
 pub mod Changes
+-- The middle at which a cell is split is no vertex of a cell of its depth or less.
+pub mod Newest

@@ -60,10 +60,10 @@ module _ {x y : ℕ} (s : Sides x y) (k p j : ℕ) where
 
 -- all axes
 module _ {d k : ℕ} {c : Frame} (g : GoodFrame d k c) (j : ℕ) where
-  half-high : k < j → j ≤ d → sum (λ a. vert k c j a % 2) d ≡ j
+  pub half-high : k < j → j ≤ d → sum (λ a. vert k c j a % 2) d ≡ j
   half-high h l = sum-same (λ a. vert k c j a % 2) (λ a. upTo j (c .at a)) d (λ a la. half-past (g .sides a la) k (c .at a) j h) ∙ count (g .perm) j l
 
-  half-low : j ≤ k → sum (λ a. vert k c j a % 2) d ≡ 0
+  pub half-low : j ≤ k → sum (λ a. vert k c j a % 2) d ≡ 0
   half-low h = sum-none (λ a. vert k c j a % 2) d (λ a la. half-none (g .sides a la) k (c .at a) j h)
 
   rank-low : j ≤ k → k ≤ d → sum (λ a. vert k c j a / 2 % 2) d ≡ rank d k c + j
