@@ -15,7 +15,9 @@
 
 #define CODES 8192
 #define ROUNDS 600
-#define SHEET_BYTES 38000000 /* room for 1,000,000 records of at most 38 bytes */
+#define MOST_LEAVES 1000000
+#define SHEET_BYTES (38 * MOST_LEAVES) /* a record has at most 38 bytes */
+#define MOST_IN_RING 48                 /* cells around an edge of the cubes of dimension 4 */
 #define POINTS 16             /* that a round of queries asks for */
 #define QUERY_LEAVES 10000
 #define SMALL_LEAVES 100
@@ -224,39 +226,66 @@ static void sized_sheet(uint8_t d, size_t leaves)
         add_leaves(root, 2u + d, (leaves - sheet_records) / left);
 }
 
-/* The cells of a depth inside a cell, `left` of them to come in the whole sheet, some of which, `halved` of them to come, are
- * split once more: each with the chance that meets the number. */
-static void add_cells(const uint8_t *code, size_t length, unsigned depth, size_t *left, size_t *halved)
+/* Eight bytes at most, mixed. */
+static uint64_t hash_of(const uint8_t *bytes, size_t length)
 {
-    unsigned split = code[1] < depth;
-    if (code[1] == depth) {
-        split = random_below(*left) < *halved;
-        *left -= 1;
-        *halved -= split;
-    }
-    if (!split) {
+    uint64_t word = 0;
+    memcpy(&word, bytes, length);
+    word = (word ^ word >> 32) * 0x9e3779b97f4a7c15u;
+    return (word ^ word >> 29) * 0xbf58476d1ce4e5b9u;
+}
+
+/* One number for all cells that are split at the same edge, in whatever order they have its ends: a ring of cells. */
+static uint64_t ring_of(const uint8_t *code, size_t length)
+{
+    uint8_t vertices[RMK_LONGEST_POINTS];
+    size_t d = code[0], k = d - code[1] % d;
+    plain_vertices(code, length, vertices, sizeof vertices);
+    return hash_of(vertices, 2 * d) + hash_of(vertices + 2 * d * k, 2 * d);
+}
+
+/* The cells of a depth inside a cell, those of every ring below the limit split once more. */
+static void add_cells(const uint8_t *code, size_t length, unsigned depth, uint64_t limit)
+{
+    if (code[1] > depth || (code[1] == depth && ring_of(code, length) >= limit)) {
         add_leaf(code, length);
         return;
     }
     for (uint8_t which = 0; which < 2; which++) {
         uint8_t child[RMK_LONGEST_CODE];
         rmk_written written = plain_child(code, length, which, child, sizeof child);
-        add_cells(child, written.length, depth, left, halved);
+        add_cells(child, written.length, depth, limit);
     }
 }
 
-/* A compatible sheet of so many leaves, of two depths: the cells across are leaves, or parents or children of leaves. */
-static void compatible_sheet(uint8_t d, size_t leaves)
+static void add_roots(uint8_t d, unsigned depth, uint64_t limit)
 {
     uint8_t root[RMK_LONGEST_CODE] = {d, 0};
-    unsigned depth = 0;
-    size_t left = d == 2 ? 2 : d == 3 ? 6 : 24;
-    for (; 2 * left <= leaves; left *= 2)
-        depth++;
-    size_t halved = leaves - left;
     sheet_length = sheet_records = 0;
     for (unsigned digits = 0; next_root(root, &digits);)
-        add_cells(root, 2u + d, depth, &left, &halved);
+        add_cells(root, 2u + d, depth, limit);
+}
+
+static int by_number(const void *p, const void *q)
+{
+    uint64_t a = *(const uint64_t *)p, b = *(const uint64_t *)q;
+    return (a > b) - (a < b);
+}
+
+/* A compatible sheet of so many leaves, or as few less as whole rings allow: all cells of a depth, and whole rings of them split.
+ * In a uniform sheet every ring is whole: all cells that have its edge are split there. */
+static void compatible_sheet(uint8_t d, size_t leaves)
+{
+    static uint64_t rings[MOST_LEAVES];
+    unsigned depth = 0;
+    for (size_t cells = d == 2 ? 2 : d == 3 ? 6 : 24; 2 * cells <= leaves; cells *= 2)
+        depth++;
+    add_roots(d, depth, 0);
+    size_t cells = sheet_records, record = sheet_length / cells, code = 2u + d + depth / d;
+    for (size_t n = 0; n < cells; n++)
+        rings[n] = ring_of(sheet + n * record + 2, code);
+    qsort(rings, cells, sizeof *rings, by_number);
+    add_roots(d, depth, rings[leaves - cells]); /* no more of them are below that one */
 }
 
 /* Anywhere in the cube. */
@@ -567,8 +596,8 @@ static void sheet_tables(void)
 static void compatible_row(uint8_t d, size_t leaves)
 {
     compatible_sheet(d, leaves);
-    if (sheet_records != leaves || compatible_round(&plain) != 1) {
-        fprintf(stderr, "the sheet is not compatible\n");
+    if (sheet_records > leaves || leaves - sheet_records >= MOST_IN_RING || compatible_round(&plain) != 1) {
+        fprintf(stderr, "the sheet is not compatible, or has too few leaves\n");
         exit(1);
     }
     medians m = measure(compatible_round, &plain, 1 + 200000 / leaves);
@@ -583,11 +612,12 @@ static void compatible_table(void)
         return;
     printf("\n| entry | leaves | ours, ns a record | plain C, ns | ratio |\n|---|---|---|---|---|\n");
     for (uint8_t d = 2; d <= 4; d++)
-        for (size_t leaves = 1000; leaves <= 1000000; leaves *= 10)
+        for (size_t leaves = 1000; leaves <= MOST_LEAVES; leaves *= 10)
             compatible_row(d, leaves);
 }
 
-/* The same once more for us alone, with the leaves doubled from row to row: how many times the time of half as many leaves. */
+/* The same once more for us alone, with the leaves doubled from row to row, but for a ring at most: how many times the time of half
+ * as many leaves. */
 static void doubling_table(void)
 {
     if (!ours.compatible)
@@ -595,7 +625,7 @@ static void doubling_table(void)
     printf("\n| leaves | dimension 2, ns a record | twice | dimension 3, ns a record | twice | dimension 4, ns a record | twice |\n"
            "|---|---|---|---|---|---|---|\n");
     double before[3] = {0, 0, 0};
-    for (size_t leaves = 15625; leaves <= 1000000; leaves *= 2) {
+    for (size_t leaves = 15625; leaves <= MOST_LEAVES; leaves *= 2) {
         printf("| %zu |", leaves);
         for (uint8_t d = 2; d <= 4; d++) {
             compatible_sheet(d, leaves);

@@ -653,31 +653,43 @@ static leaf_set leaves_of(const uint8_t *sheet, size_t records)
     return leaves;
 }
 
-/* Is a cell, or its parent, or one of its children, a leaf? */
-static int is_near_leaf(const leaf_set *leaves, const uint8_t *code, size_t length, header h)
+/* Does a leaf have all vertices of the facet that leads to a cell, whose new vertex stands at a place? It is the cell; or its
+ * parent, where the place is that of the cell's newest vertex; or its child 1 or 0, where the place is 0 or k. The place decides
+ * which one of the three is looked for. */
+static int is_met(const leaf_set *leaves, const uint8_t *code, size_t length, header h, unsigned place)
 {
     uint8_t other[RMK_LONGEST_CODE];
     if (is_leaf(leaves, code, length))
         return 1;
-    if (h.depth > 0 && is_leaf(leaves, other, put_parent(code, length, h, other)))
-        return 1;
-    for (unsigned which = 0; which < 2 && h.depth < RMK_HALVINGS * h.d; which++)
-        if (is_leaf(leaves, other, put_child(code, length, h, which, other)))
-            return 1;
-    return 0;
+    if (place == (h.k == h.d ? 1 : h.k + 1))
+        return h.depth > 0 && is_leaf(leaves, other, put_parent(code, length, h, other));
+    if (place != 0 && place != h.k)
+        return 0;
+    return h.depth < RMK_HALVINGS * h.d && is_leaf(leaves, other, put_child(code, length, h, place == 0, other));
 }
 
-/* Is each facet of a leaf in a face of the cube, or the cell across it near a leaf? */
+/* Was the last step to child 1? Then entry k of the parent has not the own sign of the box before it. */
+static int is_second(const uint8_t *code, header h)
+{
+    unsigned new_level = h.k == h.d, k = new_level ? 1 : h.k + 1;
+    uint8_t moved = code[HEAD + k - 1];
+    return h.depth > 0 && is_minus(moved) != is_high(own_sign(code + HEAD + h.d, h.boxes - new_level), axis_of(moved));
+}
+
+/* Is each facet of a leaf in a face of the cube, or met by another leaf? No two others lie beyond it: leaves do not overlap. As ours
+ * does, it looks from child 0 alone, and not at facet 0. */
 static int meets_leaves(const leaf_set *leaves, const uint8_t *code, header h)
 {
     size_t length = HEAD + h.d + h.boxes;
     uint8_t across[RMK_LONGEST_CODE];
-    for (unsigned facet = 0; facet <= h.d; facet++) {
+    if (is_second(code, h))
+        return 1;
+    for (unsigned facet = 1; facet <= h.d; facet++) {
         way_out way = way_across(code + HEAD, h, facet);
         if (leaves_cube(way))
             continue;
-        put_across(code, length, h, facet, way, across);
-        if (!is_near_leaf(leaves, across, length, h))
+        unsigned place = put_across(code, length, h, facet, way, across);
+        if (!is_met(leaves, across, length, h, place))
             return 0;
     }
     return 1;

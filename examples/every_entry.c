@@ -698,15 +698,19 @@ static void try_sheet_check(void)
 #define HALVED "43 4C " P7 SAMPLES_2 "43 4C " P2 SAMPLES_2 RECORD_1 /* the first root's two children */
 #define QUARTERED "43 4C " P8_ACROSS_0 SAMPLES_2 "43 4C " P3 SAMPLES_2 "43 4C " P2 SAMPLES_2 /* and P7's two */
 #define CORNER QUARTERED RECORD_1
+#define BOTH_CHILDREN "43 4C 02 01 02 01" SAMPLES_2 "43 4C " P9_GOOD SAMPLES_2 /* the second root's */
 
 static void try_compatible(void)
 {
     compatible(SHEET, RMK_DONE, 1, 0);
-    compatible(HALVED, RMK_DONE, 1, 0); /* one of the two roots is split: the other is the parent of the cell across */
-    /* The first root's halves P8_ACROSS_0 and P3 reach the other root's edge two steps below it; with that root's two
-     * children in its place, one step. */
+    /* One of the two roots is split: (2048,2048), a vertex of both halves, is the middle of the other root's longest edge, whose two
+     * ends no other leaf has. With that root's two children in its place, each half of the edge has two leaves. */
+    compatible(HALVED, RMK_DONE, 0, 0);
+    compatible("43 4C " P7 SAMPLES_2 "43 4C " P2 SAMPLES_2 BOTH_CHILDREN, RMK_DONE, 1, 0);
+    /* P7's two children reach the other root's edge two steps below it; where that root is split once, they have no vertex inside an
+     * edge of its children. */
     compatible(CORNER, RMK_DONE, 0, 0);
-    compatible(QUARTERED "43 4C 02 01 02 01" SAMPLES_2 "43 4C " P9_GOOD SAMPLES_2, RMK_DONE, 1, 0);
+    compatible(QUARTERED BOTH_CHILDREN, RMK_DONE, 1, 0);
 }
 
 static void try_queries(void)

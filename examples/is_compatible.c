@@ -1,5 +1,5 @@
 /*
- * Tests sheets for compatibility: no leaf's neighbour across a facet is more than one split larger or smaller.
+ * Tests sheets for compatibility: across each facet inside the cube exactly one other leaf has all its vertices.
  * Exit status 1 if one is refused or not compatible.
  */
 #include "bytes.h"

@@ -32,7 +32,7 @@ extern "C" {
 #endif
 
 /* The version. It stands here alone: the scripts read this line. */
-#define RMK_VERSION "0.11.0"
+#define RMK_VERSION "0.12.0"
 
 /* Sizes. The longest ones suffice as lent outputs in every dimension. */
 #define RMK_HALVINGS 12        /* the greatest depth is this times the dimension */
@@ -236,8 +236,8 @@ rmk_crossed rmk_cross(const uint8_t *code, size_t code_length, uint8_t facet, ui
 rmk_sheet_answer rmk_sheet_check(const uint8_t *sheet, size_t sheet_length);
 
 /** Compatibility test: are the leaves of a sheet compatible? They are when, for each leaf and each facet not
- * in a face of the cube, the same-depth cell across it, or that cell's parent, or one of that cell's
- * children, is a leaf.
+ * in a face of the cube, exactly one other leaf has all that facet's vertices. They are points, in whatever
+ * order; another leaf is another record.
  * \param [in] sheet    The sheet, as the sheet check takes it. The whole of it is checked at each call.
  * \return              The refusal, 1 for yes or 0 for no, and the refusal's offset.
  *
@@ -245,10 +245,11 @@ rmk_sheet_answer rmk_sheet_check(const uint8_t *sheet, size_t sheet_length);
  * Assumed:             `sheet` is non-null and valid for `sheet_length` bytes; 256 KiB of stack are left,
  *                      most of which an index of 10,240 records takes.
  * Example:             the sheet check's 24 bytes are compatible, 1. With its first record replaced by
- *                      that leaf's halves, 02 01 01 02 and 02 01 02 81, they still are; with the first
- *                      half replaced by its own halves, 02 02 01 02 00 and 02 02 81 02 01, no more: 0.
- * Cost:                one pass to check the sheet and one to fill the index; then for each facet of each
- *                      leaf one crossing and one search, or two where the cell across is split: among
+ *                      that leaf's halves, 02 01 01 02 and 02 01 02 81, they are not, 0: the ends of the
+ *                      other root's longest edge, (0,0) and (4096,4096), are in no other leaf together. With
+ *                      that root replaced by its halves too, 02 01 02 01 and 02 01 01 82, they are: 1.
+ * Cost:                one pass to check the sheet and one to fill the index; then, for each leaf that is a
+ *                      cell's child 0 and each of its facets but facet 0, one crossing and one search: among
  *                      the index's records by halving, and from there over at most records / 9216 more,
  *                      none where the cell stands near its leaf in tree order, as most do.
  */

@@ -106,11 +106,16 @@ impl Tally {
         self.counts.iter().map(|row| row.1).sum()
     }
 
-    /// Fails where an entry had less than one in so many of all inputs.
-    pub fn hold_share(&self, entry: &str, part: usize) {
-        let had: usize = self.counts.iter().filter(|row| row.0 == entry).map(|row| row.1).sum();
-        if part * had < self.inputs() {
-            println!("{}: {entry}: {had}, less than one in {part}", self.name);
+    /// How many of them an entry had.
+    pub fn had(&self, entry: &str) -> usize {
+        self.counts.iter().filter(|row| row.0 == entry).map(|row| row.1).sum()
+    }
+
+    /// Fails where an entry had fewer inputs than so many.
+    pub fn hold_least(&self, entry: &str, least: usize) {
+        let had = self.had(entry);
+        println!("{}: {entry}: {had} inputs, at least {least} are asked for", self.name);
+        if had < least {
             std::process::exit(1);
         }
     }

@@ -7,7 +7,7 @@
 pub mod answers; // the answers as the C side lays them out
 pub mod bisection; // "The cube and the bisection": points, roots, cells
 pub mod codes; // "The code": the step rule and the bytes
-pub mod compatible; // "Sheets": the compatibility test, by listing facets and by crossing
+pub mod compatible; // "Sheets": the compatibility test, by the vertices of facets and by pairs of leaves
 pub mod crossing; // "Crossing", by geometry and by listing all cells
 pub mod entries; // the expected outcome of each entry on a code
 pub mod finder; // the root and the path of a code, by search

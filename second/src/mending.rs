@@ -1,18 +1,24 @@
 //! Compatible sheets that are not uniform: forests whose leaves are split, and then every leaf that became
 //! too large beside a smaller one, until none is left.
 
-use crate::bisection::roots;
-use crate::crossing::across;
+use crate::bisection::{roots, Cell, Point};
+use crate::crossing::{across, facet_of};
 use crate::finder::Found;
 use crate::forests::leaf;
 use crate::random::Random;
 use crate::sizes::*;
-use std::collections::BTreeSet;
+use std::collections::{BTreeMap, BTreeSet, HashMap};
 
 /// The leaves of a forest; a set has them in tree order.
 #[derive(Clone)]
 pub struct Forest {
     leaves: BTreeSet<Found>,
+}
+
+/// A facet's vertices, and the same-depth cell across it.
+struct Beside {
+    facet: Vec<Point>,
+    cell: Found,
 }
 
 impl Forest {
@@ -27,16 +33,59 @@ impl Forest {
         forest
     }
 
-    /// So many leaves: all cells of a depth, some of which are split once. It is compatible.
-    pub fn of_two_depths(random: &mut Random, d: usize, leaves: usize) -> Forest {
+    /// All cells of the greatest depth at which they are no more than so many.
+    fn uniform_of(d: usize, leaves: usize) -> Forest {
         let fits = |depth: &usize| roots(d).len() << depth <= leaves;
-        let depth = (0..).take_while(fits).last().expect("there are more roots");
-        let mut forest = Forest::uniform(d, depth);
+        Forest::uniform(d, (0..).take_while(fits).last().expect("there are more roots"))
+    }
+
+    /// So many leaves: all cells of a depth, some of which are split once. Leaves side by side are at most
+    /// one depth apart, which is all that document 01's own rule asks for.
+    pub fn of_two_depths(random: &mut Random, d: usize, leaves: usize) -> Forest {
+        let mut forest = Forest::uniform_of(d, leaves);
         let mut whole: Vec<Found> = forest.leaves.iter().cloned().collect();
         while forest.len() < leaves {
             forest.split(&whole.swap_remove(random.below(whole.len())));
         }
         forest
+    }
+
+    /// A compatible forest of so many leaves, or as few less as whole rings allow: all cells of a depth, of
+    /// which whole rings are split, and then of what came of it.
+    pub fn of_rings(random: &mut Random, d: usize, leaves: usize) -> Forest {
+        let mut forest = Forest::uniform_of(d, leaves);
+        loop {
+            let (mut rings, before) = (forest.rings(), forest.len());
+            while forest.len() < leaves && !rings.is_empty() {
+                let ring = rings.swap_remove(random.below(rings.len()));
+                if forest.len() + ring.len() <= leaves {
+                    ring.iter().for_each(|leaf| drop(forest.split(leaf)));
+                }
+            }
+            if forest.len() == before {
+                return forest;
+            }
+        }
+    }
+
+    /// The whole rings: the leaves that are split at an edge, where they are all leaves that have both its
+    /// ends. So no leaf that is not split keeps an edge whose middle became a vertex.
+    fn rings(&self) -> Vec<Vec<Found>> {
+        let (mut having, mut rings) = (HashMap::new(), BTreeMap::<_, Vec<Found>>::new());
+        for leaf in &self.leaves {
+            let cell = Cell::at(&leaf.root, &leaf.path);
+            for (place, one) in cell.vertices.iter().enumerate() {
+                for other in &cell.vertices[..place] {
+                    *having.entry(edge(one, other)).or_insert(0) += 1;
+                }
+            }
+            if may_split(leaf) {
+                let halved = edge(&cell.vertices[0], &cell.vertices[cell.split_place()]);
+                rings.entry(halved).or_default().push(leaf.clone());
+            }
+        }
+        let whole = |(edge, ring): (_, Vec<Found>)| (having[&edge] == ring.len()).then_some(ring);
+        rings.into_iter().filter_map(whole).collect()
     }
 
     pub fn leaves(&self) -> impl Iterator<Item = &Found> {
@@ -82,8 +131,8 @@ impl Forest {
             if !self.leaves.contains(&leaf) {
                 continue;
             }
-            for cell in cells_across(&leaf) {
-                while let Some(large) = self.too_large(&cell).filter(|large| Some(large) != kept) {
+            for near in besides(&leaf) {
+                while let Some(large) = self.too_large(&near).filter(|large| Some(large) != kept) {
                     smaller.extend(self.split(&large));
                 }
             }
@@ -92,12 +141,16 @@ impl Forest {
 
     /// The leaves that are too large beside smaller ones.
     pub fn large_leaves(&self, smaller: &[Found]) -> Vec<Found> {
-        smaller.iter().flat_map(cells_across).filter_map(|cell| self.too_large(&cell)).collect()
+        smaller.iter().flat_map(besides).filter_map(|near| self.too_large(&near)).collect()
     }
 
-    /// The leaf that has the cell inside, if it is not its parent.
-    fn too_large(&self, cell: &Found) -> Option<Found> {
-        self.over(cell).filter(|leaf| leaf.path.len() + 1 < cell.path.len())
+    /// The leaf that is the cell across a facet or has it inside, if it lacks a vertex of the facet.
+    fn too_large(&self, beside: &Beside) -> Option<Found> {
+        let lacks = |leaf: &Found| {
+            let vertices = vertices_of(leaf);
+            beside.facet.iter().any(|point| !vertices.contains(point))
+        };
+        self.over(&beside.cell).filter(lacks)
     }
 
     /// A sheet of these leaves, with any samples.
@@ -106,10 +159,23 @@ impl Forest {
     }
 }
 
-/// The cells across the facets that are not in a face of the cube.
-fn cells_across(leaf: &Found) -> Vec<Found> {
-    let facets = 0..=leaf.root.len() as u8;
-    facets.filter_map(|facet| across(leaf, facet).ok()).map(|(cell, _place)| cell).collect()
+fn vertices_of(leaf: &Found) -> Vec<Point> {
+    Cell::at(&leaf.root, &leaf.path).vertices
+}
+
+/// Two points, in one order.
+fn edge(one: &Point, other: &Point) -> [Point; 2] {
+    [*one.min(other), *one.max(other)]
+}
+
+/// What is beside a leaf across each facet that is not in a face of the cube.
+fn besides(leaf: &Found) -> Vec<Beside> {
+    let cell = Cell::at(&leaf.root, &leaf.path);
+    let beside = |facet: usize| {
+        let (across, _place) = across(leaf, facet as u8).ok()?;
+        Some(Beside { facet: facet_of(&cell, facet), cell: across })
+    };
+    (0..cell.vertices.len()).filter_map(beside).collect()
 }
 
 pub fn may_split(leaf: &Found) -> bool {

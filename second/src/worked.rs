@@ -1,9 +1,10 @@
-//! Document 01, "Cells worked by hand", copied from the document. The second program is held to them
-//! before anything is compared with it.
+//! Document 01, "Cells worked by hand", copied from the document, and cases of its change requests. The
+//! second program is held to them before anything is compared with it.
 
 use crate::answers::{Crossed, LeafAnswer, SheetAnswer, SlopeAnswer, ValueAnswer};
 use crate::bisection::Cell;
 use crate::codes::Code;
+use crate::compatible::{by_old_rule, compatible};
 use crate::crossing;
 use crate::entries;
 use crate::finder::{Finder, Found};
@@ -53,6 +54,18 @@ const SHEET: [u8; 24] = [
     0x43, 0x4c, 0x02, 0x00, 0x02, 0x01, 0x0a, 0x00, 0x1e, 0x00, 0x32, 0x00,
 ];
 
+/// Request No. 4's case: the two children of root 12, of which each has (2048,2048), the middle of the longest
+/// edge of root 21; and that root, whole or as its two children.
+const HALVES: [u8; 24] = [
+    0x43, 0x4c, 0x02, 0x01, 0x01, 0x02, 0x0a, 0x00, 0x14, 0x00, 0x3c, 0x00, //
+    0x43, 0x4c, 0x02, 0x01, 0x02, 0x81, 0x14, 0x00, 0x32, 0x00, 0x3c, 0x00,
+];
+const WHOLE: [u8; 12] = [0x43, 0x4c, 0x02, 0x00, 0x02, 0x01, 0x0a, 0x00, 0x1e, 0x00, 0x32, 0x00];
+const SPLIT: [u8; 24] = [
+    0x43, 0x4c, 0x02, 0x01, 0x02, 0x01, 0x0a, 0x00, 0x1e, 0x00, 0x3c, 0x00, //
+    0x43, 0x4c, 0x02, 0x01, 0x01, 0x82, 0x1e, 0x00, 0x32, 0x00, 0x3c, 0x00,
+];
+
 /// The codes that the worked cases name.
 pub fn codes() -> Vec<Vec<u8>> {
     PATHS.iter().map(|row| row.2.to_vec()).chain(SIGNS.map(|code| code.to_vec())).collect()
@@ -74,6 +87,7 @@ pub fn check(finder: &Finder) {
     crossings(finder);
     limits(finder);
     sheets(finder);
+    seams(finder);
     queries(finder);
     signed_entries();
 }
@@ -111,6 +125,18 @@ fn sheets(finder: &Finder) {
     assert_eq!(sheets.check(&SHEET), SheetAnswer { refusal: DONE, offset: 0, records: 2 });
     assert_eq!(sheets.check(&SHEET[..12]), early(12));
     assert_eq!(sheets.check(&[]), early(0));
+}
+
+/// The seam is let through by document 01's own rule and is not compatible; mended it is.
+fn seams(finder: &Finder) {
+    let sheets = Sheets::new(finder);
+    let answers = |sheet: &[u8]| {
+        let old = by_old_rule(&sheets.cells(sheet).expect("a good sheet"));
+        (compatible(&sheets, sheet).compatible, old)
+    };
+    assert_eq!(answers(&SHEET), (1, true));
+    assert_eq!(answers(&[&HALVES[..], &WHOLE].concat()), (0, true));
+    assert_eq!(answers(&[&HALVES[..], &SPLIT].concat()), (1, true));
 }
 
 /// P10: record 0, weights 3072, 0, 1024, value 20. Coordinate 4096 is good, 4097 is refusal 12. At (1024,512)

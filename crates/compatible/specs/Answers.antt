@@ -1,4 +1,5 @@
--- The whole test: a checked sheet is ready for an index and for the walk, and what the walk says is the answer.
+-- The whole test: a checked sheet is ready for an index and for the walk, and what the walk says is the answer, since a sheet is
+-- compatible exactly where all facets pass.
 use mathlib.Core.Path.{_≡_, refl, ap, subst}
 use mathlib.Core.Bool.{Bool, true, false}
 use mathlib.Core.List.{List}
@@ -13,6 +14,7 @@ use Rattle.finding.specs.declared.opened.Opened.{Opened}
 use Rattle.finding.specs.Opened.{OpenedIs, shut, checked, Checked, opened-checked}
 use Rattle.finding.specs.Finding.{Indexed}
 use Rattle.finding.specs.Indexes.{IndexReady}
+use Rattle.rings.specs.Theorems.Forms.{compatible-pass, first-compatible}
 use Rattle.compatible.specs.Compatible.{yes-or-no, Judges, yes-all, not-all, CompatibleIs}
 use Rattle.compatible.specs.Walking.{SheetReady, SheetHolds}
 
@@ -41,5 +43,5 @@ module _ {sheet : List ℕ} {o : Opened} (s : OpenedIs sheet o) where
   compatible-told h k = let c = opened-checked s h in sheet-good (c .good-sheet) (judged _ k (c .good-sheet))
     where
       judged : (b : Bool) → SheetHolds sheetMark sampleWidth sheet b → {n : ℕ} (g : Good sheet n) → Judges (g .cells) (yes-or-no 0 0 (boolByte b))
-      judged true k g = yes-all (k .holds refl g) refl
-      judged false k g = not-all (k .fails refl g) refl
+      judged true k g = yes-all (first-compatible (g .dimension) (g .is-dimension) (g .leaves) (k .holds refl g)) refl
+      judged false k g = not-all (λ c. k .fails refl g (compatible-pass (g .dimension) (g .is-dimension) (g .leaves) c)) refl

@@ -1,12 +1,10 @@
--- The compatibility test. A reader must believe Compatible; the rest is checked.
--- Compatible sheets, and what the test answers.
+-- The compatibility test. A reader must believe Compatible, and rings/specs/Compatible.antt, which it cites; the rest is checked.
+-- What the test answers.
 pub mod Compatible
--- Which leaf of a good sheet makes a cell near one.
-pub mod Deciding
--- The cell across a facet by its code.
-pub mod Crossing
--- What is found of a cell.
-pub mod Nearness
+-- One look at a cell.
+pub mod Looks
+-- The last step of a leaf, and where the next one starts.
+pub mod Steps
 -- One facet of a leaf.
 pub mod FacetLaws
 -- The walk over leaves and facets.

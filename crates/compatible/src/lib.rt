@@ -1,11 +1,12 @@
-// The compatibility test of a sheet. The rule of one facet stands in `is_near`; the walk over leaves and facets knows only whether it
-// holds.
-ghost use Prim.Native.Nat.{_≤_};
+// The compatibility test of a sheet: one look at the cell across a facet, for each leaf that is child 0 and each of its facets but facet 0.
+// What a look tells stands in `is_matched`; the walk over leaves and facets knows only whether a facet passes.
+ghost use Prim.Native.Nat.{_+_, _^_, _≤_, _<_};
 ghost use Rattle.sheets.specs.Sheets.{sheetMark, sampleWidth};
 ghost use Rattle.sheets.specs.Steps.{markOf};
 ghost use Rattle.finding.specs.Opened.{Checked};
 ghost use Rattle.compatible.specs.Compatible.{yes-or-no, CompatibleIs};
-ghost use Rattle.compatible.specs.Nearness.{LeafKind, NearReady, NearIs};
+ghost use Rattle.compatible.specs.Looks.{LookReady, LookIs};
+ghost use Rattle.compatible.specs.Steps.{LastStep, NextPlace};
 ghost use Rattle.compatible.specs.FacetLaws.{FacetReady, FacetIs};
 ghost use Rattle.compatible.specs.Walking.{LeafReady, LeafHolds, RecordReady, RecordHolds, SheetReady, SheetHolds};
 use bisection::DONE;
@@ -13,7 +14,6 @@ use dimension::Dim;
 use finding::Kind;
 use finding::Spread;
 use finding::opened;
-use positions::Position;
 use sheets::Edition;
 
 // The answer: where a refused record begins; 1 for yes, 0 for no.
@@ -29,55 +29,38 @@ const ENTRIES: usize = 10240;
 
 const INDEX_ROOM: usize = 3 * ENTRIES;
 
-// Whether the cell found is itself a leaf.
-fn is_leaf(kind: Kind) -> bool
-    ensures { λ r. ⌜ LeafKind kind r ⌝ }
-{
-    match kind {
-        Kind::Leaf => true,
-        Kind::Inside => false,
-        Kind::Split => false,
-    }
-}
-
-// The rule: whether the cell of a code, or its parent, or one of its children, is a leaf. A cell inside a leaf has no leaf above it but
-// that one; of a cell that is split, the first leaf inside is child 0, or child 1 is still to be looked for.
-fn is_near(
+// Whether one look at the cell across a facet tells that another leaf has the facet's vertices: the cell is present, a leaf or split; or
+// its parent is a leaf, and its new vertex, which stands at a place, is its newest one.
+fn is_matched(
     edition: Edition,
     sheet: &[u8],
     dimension: u8,
     index: &[u64],
     spread: Spread,
     code: &[u8],
+    place: usize,
 ) -> bool
-    requires { ⌜ NearReady (markOf edition) (edition .width) (now sheet) dimension (now index) spread (now code) ⌝ }
-    ensures { λ r. ⌜ NearIs (markOf edition) (edition .width) (now (sheet .entry)) (now (code .entry)) r ⌝ }
+    requires { ⌜ LookReady (markOf edition) (edition .width) (now sheet) dimension (now index) spread (now code) ⌝ }
+    ensures { λ r. ⌜ LookIs (markOf edition) (edition .width) (now (sheet .entry)) dimension (now (code .entry)) place r ⌝ }
 {
     let cell = positions::position_of(code);
     let found = finding::find(edition, sheet, dimension, index, spread, cell);
-    let depth = codes::code_depth(code);
     let kind = found.kind;
     match kind {
         Kind::Leaf => true,
-        Kind::Inside => found.depth + 1 == depth,
-        Kind::Split => {
-            if found.depth == depth + 1 {
-                return true;
+        Kind::Split => true,
+        Kind::Inside => {
+            let depth = codes::code_depth(code);
+            if found.depth + 1 != depth {
+                return false;
             }
-            let half = cell.size / 2;
-            let second = Position {
-                root: cell.root,
-                start: cell.start + half,
-                size: half,
-            };
-            let other = finding::find(edition, sheet, dimension, index, spread, second);
-            let second_kind = other.kind;
-            is_leaf(second_kind)
+            let newest = Dim::checked(dimension).split_place(found.depth);
+            place == newest
         }
     }
 }
 
-// Whether the rule holds of one facet of a leaf: it lies in a face of the cube, or the cell across is near a leaf.
+// Whether one facet of a leaf passes: it lies in a face of the cube, or the cell across is matched.
 fn facet_holds(
     edition: Edition,
     sheet: &[u8],
@@ -88,24 +71,26 @@ fn facet_holds(
     facet: u8,
 ) -> bool
     requires { ⌜ FacetReady (markOf edition) (edition .width) (now sheet) dimension (now index) spread (now code) facet ⌝ }
-    ensures { λ r. ⌜ FacetIs (markOf edition) (edition .width) (now (sheet .entry)) (now (code .entry)) facet r ⌝ }
+    ensures { λ r. ⌜ FacetIs (markOf edition) (edition .width) (now (sheet .entry)) dimension (now (code .entry)) facet r ⌝ }
 {
     let mut across = [0u8; Dim::LONGEST_CODE];
     let crossed = crossing::cross_checked(code, facet, &mut across);
     if crossed.refusal != DONE {
         return true;
     }
-    is_near(
+    is_matched(
         edition,
         sheet,
         dimension,
         index,
         spread,
         &across[..crossed.length],
+        common::size(crossed.place),
     )
 }
 
-// Whether it holds of each facet of a leaf.
+// Whether each facet of a leaf passes that is to be looked at: its code, and the last step of its path. Looks from child 0 of each cell
+// see all that is seen from child 1, and none is needed at facet 0.
 fn leaf_holds(
     edition: Edition,
     sheet: &[u8],
@@ -113,11 +98,15 @@ fn leaf_holds(
     index: &[u64],
     spread: Spread,
     code: &[u8],
+    step: u64,
 ) -> bool
-    requires { ⌜ (LeafReady (markOf edition) (edition .width) (now sheet) dimension (now index) spread (now code)) × (dimension ≤ 4) ⌝ }
+    requires { ⌜ (LeafReady (markOf edition) (edition .width) (now sheet) dimension (now index) spread (now code)) × (dimension ≤ 4) × LastStep (now code) step ⌝ }
     ensures { λ r. ⌜ LeafHolds (markOf edition) (edition .width) (now (sheet .entry)) dimension (now (code .entry)) r ⌝ }
 {
-    let mut facet: u8 = 0;
+    if step == 1 {
+        return true;
+    }
+    let mut facet: u8 = 1;
     while facet <= dimension {
         if !facet_holds(edition, sheet, dimension, index, spread, code, facet) {
             return false;
@@ -127,13 +116,15 @@ fn leaf_holds(
     true
 }
 
-// What is said of a record: whether the rule holds of each facet of its leaf, and how many bytes it has.
+// What is said of a record: whether those facets of its leaf pass, how many bytes it has, and how long its leaf's part of the line is.
 pub struct Judged {
     pub holds: bool,
     pub length: usize,
+    pub size: u64,
 }
 
-// The same of the leaf of the record at an offset.
+// The same of the leaf of the record at an offset, which starts at a place of its root's stretch: child 0 has the first half of its
+// parent's part, child 1 the second.
 fn record_holds(
     edition: Edition,
     sheet: &[u8],
@@ -141,19 +132,40 @@ fn record_holds(
     index: &[u64],
     spread: Spread,
     offset: usize,
+    place: u64,
 ) -> Judged
-    requires { ⌜ RecordReady (markOf edition) (edition .width) (now sheet) dimension (now index) spread offset ⌝ }
+    requires { ⌜ RecordReady (markOf edition) (edition .width) (now sheet) dimension (now index) spread offset place ⌝ }
     ensures { λ r. ⌜ RecordHolds (markOf edition) (edition .width) (now (sheet .entry)) dimension offset r ⌝ }
 {
     let start = offset + sheets::MARK_LENGTH;
     let depth = codes::code_depth(&sheet[start..]);
-    let end = start + Dim::checked(dimension).code_length(depth);
-    let holds = leaf_holds(edition, sheet, dimension, index, spread, &sheet[start..end]);
+    let dim = Dim::checked(dimension);
+    let end = start + dim.code_length(depth);
+    let size = positions::power(dim.greatest_depth() - depth);
+    let step = place / size % 2;
+    let code = &sheet[start..end];
+    let holds = leaf_holds(edition, sheet, dimension, index, spread, code, step);
     let length = finding::record_length(edition, dimension, depth);
-    Judged { holds, length }
+    Judged {
+        holds,
+        length,
+        size,
+    }
 }
 
-// Whether it holds of each leaf. The index is kept about the leaf at hand.
+// Where the leaf after one starts on its root's stretch: behind it, or at the front of the next root's.
+fn next_place(place: u64, size: u64, stretch: u64) -> u64
+    requires { ⌜ place + size < 2 ^ 64 ⌝ }
+    ensures { λ r. ⌜ NextPlace place size stretch r ⌝ }
+{
+    let end = place + size;
+    if end < stretch {
+        return end;
+    }
+    0
+}
+
+// The same of each leaf. The index is kept about the leaf at hand.
 fn all_hold(
     edition: Edition,
     sheet: &[u8],
@@ -165,17 +177,20 @@ fn all_hold(
     requires { ⌜ SheetReady (markOf edition) (edition .width) (now sheet) dimension records (now index) spread ⌝ }
     ensures { λ r. ⌜ SheetHolds (markOf edition) (edition .width) (now (sheet .entry)) r ⌝ }
 {
+    let stretch = positions::power(Dim::checked(dimension).greatest_depth());
     let mut number: usize = 0;
     let mut offset: usize = 0;
+    let mut place: u64 = 0;
     let mut about = spread;
     while number < records {
         about = finding::index_about(edition, sheet, dimension, records, index, about, number);
-        let judged = record_holds(edition, sheet, dimension, index, about, offset);
+        let judged = record_holds(edition, sheet, dimension, index, about, offset, place);
         if !judged.holds {
             return false;
         }
-        offset += judged.length;
         number += 1;
+        offset += judged.length;
+        place = next_place(place, judged.size, stretch);
     }
     true
 }

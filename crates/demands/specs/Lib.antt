@@ -1,5 +1,5 @@
 -- What a reader opens first. To be believed are what a row says (Rows), the rows and the claim of Worked, and the claims of
--- Determined, of the demands and of Agree, Caching and ChildFacets.
+-- Determined, of the demands and of Seam, Agree, Caching and ChildFacets.
 -- What a row of worked cells says.
 pub mod Rows
 -- The worked cells of document 01 as rows of one table, and the claim that holds of every row.
@@ -10,6 +10,8 @@ pub mod Determined
 pub mod One
 pub mod Two
 pub mod Three
+-- Request No. 4: a small sheet that the old rule passes and the new one fails.
+pub mod Seam
 -- Request No. 5: crossing and splitting agree.
 pub mod Agree
 -- The same of the entries' contracts, for programs that keep children of neighbours.

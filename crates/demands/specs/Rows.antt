@@ -18,6 +18,7 @@ use Rattle.bisection.specs.Slopes.{onAxis}
 use Rattle.greys.specs.declared.Value.the-variants.{Grey}
 use Rattle.queries.specs.Queries.{leafTold, LeafIs, ValueIs}
 use Rattle.queries.specs.SlopeQueries.{SlopeIs}
+use Rattle.compatible.specs.Compatible.{yes-or-no, CompatibleIs}
 use Rattle.slopes.specs.declared.Slopes.{Slopes}
 use Rattle.slopes.specs.declared.Slope.the-variants.{Along}
 
@@ -39,6 +40,8 @@ pub data Row : Type 0 where
   value-at : (sheet point : List ℕ) (value : ℕ) → Row
   -- the slopes: on each axis a whole number with a sign, over the side
   slope-at : (sheet point : List ℕ) (numbers : List ℤ) (side : ℕ) → Row
+  -- 1 for yes, 0 for no
+  compatible : (sheet : List ℕ) (answer : ℕ) → Row
 
 -- the answer stands at the front of every buffer with room for it, and the other cells keep their content
 unfoldable pub Answered : (List ℕ → Written → List ℕ → Type 0) → List ℕ → Type 0
@@ -67,6 +70,7 @@ Holds (leaf-at sheet point number weights) = (before : List ℕ) → length (poi
     → LeafIs sheet point before (leafTold done 0 number (length (pointBytes weights))) (pointBytes weights ++ drop (length (pointBytes weights)) before)
 Holds (value-at sheet point value) = ValueIs sheet point (Grey (ofInt binary64 (pos value)))
 Holds (slope-at sheet point numbers side) = SlopeIs sheet point (Along (overSide side numbers))
+Holds (compatible sheet answer) = CompatibleIs sheet (yes-or-no done 0 answer)
 
 unfoldable pub Every : List Row → Type 0
 Every [] = Unit {0}

@@ -32,7 +32,8 @@ use Rattle.greys.specs.Samples.{greySum, sampleAt}
 use Rattle.greys.specs.Exact.{fraction-same, whole-fraction, quotient-divided}
 use Rattle.queries.specs.SlopeQueries.{slope-found}
 use Rattle.queries.specs.Queries.{cellIn, sideIn, LeafAt, LeafWeights, weightsLength, leafRefusal, leafTold, leaf-found, value-found}
-use Rattle.demands.specs.Rows.{Row, path-to-code, vertices, code-check, child-at, cross, walled, sheet-check, listing, leaf-at, value-at, slope-at, Answered, overSide, Holds, Every}
+use Rattle.compatible.specs.Compatible.{yes-or-no, CompatibleIs}
+use Rattle.demands.specs.Rows.{Row, path-to-code, vertices, code-check, child-at, cross, walled, sheet-check, listing, leaf-at, value-at, slope-at, compatible, Answered, overSide, Holds, Every}
 
 -- a root and a path that are not refused, and their code
 pub record PathShown (root path code : List ℕ) : Type 0 where
@@ -110,6 +111,7 @@ Shown (listing sheet text) = Listing sheet text
 Shown (leaf-at sheet point number weights) = LeafShown sheet point number weights
 Shown (value-at sheet point value) = ValueShown sheet point value
 Shown (slope-at sheet point numbers side) = SlopeShown sheet point numbers side
+Shown (compatible sheet answer) = CompatibleIs sheet (yes-or-no done 0 answer)
 
 path-row : {root path code : List ℕ} → PathShown root path code → Answered (PathToCode root path) code
 unfolding Answered pathRefusal
@@ -210,6 +212,7 @@ row (listing sheet text) a = λ before. record { text = text; listing = a; lengt
 row (leaf-at sheet point number weights) a = leaf-row a
 row (value-at sheet point value) a = value-row a
 row (slope-at sheet point numbers side) a = slope-row a
+row (compatible sheet answer) a = a
 
 -- row by row
 infixr 5 _and_

@@ -7,4 +7,5 @@ pub mod Agree
 pub mod Caching
 pub mod ChildFacets
 pub mod Cracked
+pub mod Seam
 pub mod Idle

@@ -29,7 +29,8 @@ use Rattle.slopes.specs.declared.Slopes.{Slopes}
 use Rattle.slopes.specs.declared.Slope.the-variants.{Along}
 use Rattle.slopes.specs.Slopes.{Components}
 use Rattle.compatible.specs.declared.CompatibleAnswer.{CompatibleAnswer}
-use Rattle.compatible.specs.Compatible.{CompatibleIs, Compatible}
+use Rattle.rings.specs.Compatible.{Compatible}
+use Rattle.compatible.specs.Compatible.{CompatibleIs}
 
 -- a code for a cell: there is one, and no other
 pub record OneCode (vs : Cell) : Type 0 where

@@ -1,4 +1,4 @@
--- Document 01, "Cells worked by hand": the proved set, and cases of requests No. 1 and No. 5, as rows of one table under one claim.
+-- Document 01, "Cells worked by hand": the proved set, and cases of requests No. 1, No. 4 and No. 5, as rows of one table under one claim.
 use mathlib.Core.Path.{refl}
 use mathlib.Core.List.{List, [], _∷_}
 use lib.IntN.{pos}
@@ -16,14 +16,18 @@ use Rattle.bisection.specs.Theorems.Table.{move, newAt, exchanged, negatedAt, e
 use Rattle.listing.specs.Texts.{digit, spelled, decimal, hex, numberLine, leafLine, leafLines, goodText, refusedText}
 use Rattle.listing.specs.Texts.{good as good-listing}
 use Rattle.demands.specs.TwoLeaves.{twoLeaves, twoLeavesText, oneLeaf, two-leaves, one-leaf-listed, too-large-listed}
-use Rattle.demands.specs.Rows.{Row, path-to-code, vertices, code-check, child-at, cross, walled, sheet-check, listing, leaf-at, value-at, slope-at, Every}
+use Rattle.demands.specs.Rows.{Row, path-to-code, vertices, code-check, child-at, cross, walled, sheet-check, listing, leaf-at, value-at, slope-at, compatible, Every}
 use Rattle.bisection.specs.Weights.{sumTo}
 use Rattle.points.specs.Points.{pointOf, isPoint}
 use Rattle.greys.specs.Samples.{greySum, sampleAt, lowFirst}
 use Rattle.greys.specs.Exact.{cube-power}
-use Rattle.sheets.specs.Sheets.{samplesOf}
+use Rattle.sheets.specs.Sheets.{samplesOf, sheet-good}
 use Rattle.demands.specs.PointTen.{weightsTen, ten-weighs, ten-leaf}
 use Rattle.demands.specs.SlopeTwo.{slope-leaf, slope-linear}
+use Rattle.compatible.specs.Compatible.{yes-all}
+use Rattle.demands.specs.Seam.{seam}
+use Rattle.demands.specs.Theorems.Cracked.{two-compatible}
+use Rattle.demands.specs.Theorems.Seam.{seam-answer}
 use Rattle.demands.specs.Shown.{LeafShown, SlopeShown, Shown, _and_, no-more, every}
 
 unfoldable pub table : List Row
@@ -71,6 +75,9 @@ table =
     -- its first 12 bytes: "refused 14 at 12"; and one byte too many: "refused 15 at 0"
     listing oneLeaf (0x72 ∷ 0x65 ∷ 0x66 ∷ 0x75 ∷ 0x73 ∷ 0x65 ∷ 0x64 ∷ 0x20 ∷ 0x31 ∷ 0x34 ∷ 0x20 ∷ 0x61 ∷ 0x74 ∷ 0x20 ∷ 0x31 ∷ 0x32 ∷ 0x0A ∷ []) ∷
     listing (replicate 65537 0x43) (0x72 ∷ 0x65 ∷ 0x66 ∷ 0x75 ∷ 0x73 ∷ 0x65 ∷ 0x64 ∷ 0x20 ∷ 0x31 ∷ 0x35 ∷ 0x20 ∷ 0x61 ∷ 0x74 ∷ 0x20 ∷ 0x30 ∷ 0x0A ∷ []) ∷
+    -- request No. 4: the two roots are compatible; with the first split into its children the leaves are not
+    compatible twoLeaves 1 ∷
+    compatible seam 0 ∷
     []
 
 ten : LeafShown twoLeaves (0x00 ∷ 0x04 ∷ 0x00 ∷ 0x04 ∷ []) 0 weightsTen
@@ -120,4 +127,6 @@ worked = every table (
     and museum
     and one-leaf-listed
     and too-large-listed
+    and sheet-good two-leaves (yes-all two-compatible refl)
+    and seam-answer
     and no-more)

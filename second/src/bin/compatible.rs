@@ -1,7 +1,8 @@
-//! Compares the library's compatibility test with the second program.
+//! Compares the library's compatibility test with the second program, on many sheets that document 01's own
+//! rule and that of request No. 4 judge differently.
 
 use second::answers::CompatibleAnswer;
-use second::compatible::compatible;
+use second::compatible::{by_old_rule, compatible};
 use second::finder::{Finder, Found};
 use second::forests::{self, damaged, deepest_sheet, good_sheet, random_cell, sheet_of_at_least};
 use second::inputs::Options;
@@ -20,11 +21,20 @@ fn library(sheet: &[u8]) -> CompatibleAnswer {
     unsafe { rmk_compatible(sheet.as_ptr(), sheet.len()) }
 }
 
-/// The answers. One in four inputs at least is a yes, and one in four a no.
-const YES: &str = "compatible, yes";
-const NO: &str = "compatible, no";
-const REFUSED: &str = "compatible, refused";
-const PART: usize = 4;
+/// What document 01's own rule says, and the answer. The new rule asks for more: none is a yes by it alone.
+const YES: &str = "yes by both rules";
+const OLD_YES: &str = "yes by the old rule and no by the new";
+const NO: &str = "no by both";
+const REFUSED: &str = "refused";
+
+/// The answer alone, of sheets of more leaves than these: the old rule takes long.
+const LEAVES: usize = 300;
+const LARGE_YES: &str = "yes of many leaves";
+const LARGE_NO: &str = "no of many leaves";
+
+/// Of so many sheets that are asked for, one at least is a yes by both rules, one a yes by the old rule and a
+/// no by the new, and one a no by both.
+const PART: usize = 10;
 
 /// Records of sheets about as large as the library's index has entries, and larger.
 const INDEX: usize = 10240;
@@ -32,7 +42,7 @@ const RECORDS: [usize; 6] = [INDEX - 1, INDEX, INDEX + 1, 15_000, 2 * INDEX + 1,
 
 /// Leaves at which a random forest has grown enough, at most: so many for each dimension from 2 on. A box
 /// has more cells in higher ones.
-const GROWN: usize = 90;
+const GROWN: usize = 70;
 
 struct Comparison<'a> {
     sheets: Sheets<'a>,
@@ -44,15 +54,28 @@ impl Comparison<'_> {
     /// Gives the second program's answer.
     fn sheet(&mut self, sheet: &[u8]) -> CompatibleAnswer {
         let expected = compatible(&self.sheets, sheet);
-        let answer = match expected {
-            CompatibleAnswer { refusal: DONE, compatible: 1, .. } => YES,
-            CompatibleAnswer { refusal: DONE, .. } => NO,
-            _ => REFUSED,
-        };
+        let answer = self.by_both_rules(sheet, expected);
         let second = |_: &mut [_; 0]| expected;
         let library = |_: &mut [_; 0]| library(sheet);
         self.tally.compare(answer, &[sheet], [], second, library);
         expected
+    }
+
+    /// What the two rules say of a sheet, with the answer by the new one.
+    fn by_both_rules(&self, sheet: &[u8], answer: CompatibleAnswer) -> &'static str {
+        let Ok(leaves) = self.sheets.cells(sheet) else {
+            return REFUSED;
+        };
+        let yes = answer.compatible == 1;
+        if leaves.len() > LEAVES {
+            return if yes { LARGE_YES } else { LARGE_NO };
+        }
+        match (by_old_rule(&leaves), yes) {
+            (true, true) => YES,
+            (true, false) => OLD_YES,
+            (false, false) => NO,
+            (false, true) => panic!("a yes by the new rule alone: {leaves:?}"),
+        }
     }
 
     /// The sheet of a forest, now and then also damaged. Is it compatible?
@@ -126,33 +149,38 @@ impl Comparison<'_> {
     /// All cells of a depth; one of them split, and a half of it again.
     fn uniform(&mut self, d: usize, depth: usize) {
         let mut forest = Forest::uniform(d, depth);
-        assert!(self.forest(&forest));
+        assert!(self.forest(&forest), "all cells of a depth are not compatible");
         let leaf = forest.any(&mut self.random);
         let halves = forest.split(&leaf);
-        assert!(self.forest(&forest));
+        self.forest(&forest);
         forest.split(&halves[self.random.below(2)]);
         self.forest(&forest);
     }
 
-    /// A leaf of greatest depth, and leaves of every depth around it: the last steps to there.
+    /// A leaf of greatest depth, and leaves of every depth around it: the last steps to there. In dimension 4
+    /// it stands in a corner of the cube, since around others there are many times more.
     fn deepest(&mut self, d: usize) {
-        let target = random_cell(&mut self.random, d, greatest_depth(d));
+        let mut target = random_cell(&mut self.random, d, greatest_depth(d));
+        if d == MOST_AXES {
+            target.path[..greatest_depth(d) - d].fill(0);
+        }
         let mut forest = Forest::uniform(d, 0);
         forest.mended_to(&target, greatest_depth(d) - 2);
         self.toward(&mut forest, &target, usize::MAX);
     }
 
-    /// So many records: a compatible sheet, the same cut, and with one half of a leaf split again.
+    /// About so many records: a compatible sheet, the same cut, and with single leaves split until they are
+    /// just so many, or one leaf where they were.
     fn large(&mut self, d: usize, records: usize) {
-        let mut forest = Forest::of_two_depths(&mut self.random, d, records);
+        let mut forest = Forest::of_rings(&mut self.random, d, records);
         let sheet = forest.sheet(&mut self.random);
-        assert_eq!(self.sheet(&sheet).compatible, 1);
+        assert_eq!(self.sheet(&sheet).compatible, 1, "whole rings are split and no single leaf");
         self.sheet(&sheet[..sheet.len() - 1]);
-        let deepest = forest.leaves().map(|leaf| leaf.path.len()).max();
-        let halves: Vec<_> =
-            forest.leaves().filter(|leaf| Some(leaf.path.len()) == deepest).collect();
-        let half = halves[self.random.below(halves.len())].clone();
-        forest.split(&half);
+        let single = 1.max(records - forest.len());
+        for _ in 0..single {
+            let leaf = forest.any(&mut self.random);
+            forest.split(&leaf);
+        }
         self.forest(&forest);
     }
 
@@ -186,11 +214,23 @@ impl Comparison<'_> {
         self.tally.part("about 10,240 records and more");
     }
 
+    /// Leaves of two depths, which stand anywhere: hardly ever compatible, but by the old rule.
+    fn two_depths(&mut self, d: usize, grown: usize) {
+        let leaves = Forest::uniform(d, 0).len() + grown;
+        let forest = Forest::of_two_depths(&mut self.random, d, leaves);
+        self.forest(&forest);
+    }
+
+    /// Sheets that were not refused.
+    fn judged(&self) -> usize {
+        self.tally.inputs() - self.tally.had(REFUSED)
+    }
+
     /// As many more sheets as were asked for, or a few above: forests that grow in one way or another.
     fn random(&mut self, count: usize) {
-        let (depths, enough) = (every_depth(), self.tally.inputs() + count);
+        let (depths, enough) = (every_depth(), self.judged() + count);
         for n in 0.. {
-            if self.tally.inputs() >= enough {
+            if self.judged() >= enough {
                 break;
             }
             let (d, depth) = depths[n % depths.len()];
@@ -203,6 +243,7 @@ impl Comparison<'_> {
             if n % 3 < 2 {
                 self.anywhere(&mut forest, grown);
             }
+            self.two_depths(d, grown);
             self.scattered(d, depth);
         }
         self.tally.part("random");
@@ -215,11 +256,12 @@ fn main() {
     worked::check(&finder);
     let sheets = Sheets::new(&finder);
     let random = Random::new(options.seed);
-    let tally = Tally::new("compatible", &[YES, NO, REFUSED]);
+    let tally = Tally::new("compatible", &[YES, OLD_YES, NO, LARGE_YES, LARGE_NO, REFUSED]);
     let mut comparison = Comparison { sheets, random, tally };
     comparison.fixed();
     comparison.random(options.count);
-    comparison.tally.hold_share(YES, PART);
-    comparison.tally.hold_share(NO, PART);
+    for answer in [YES, OLD_YES, NO] {
+        comparison.tally.hold_least(answer, options.count / PART);
+    }
     comparison.tally.close();
 }

@@ -15,6 +15,7 @@ use second::worked;
 use std::fs;
 
 const CORNER: &str = "examples/corner.sheet";
+const SEAM: &str = "examples/seam.sheet";
 const TOWARD: &str = "target/examples/toward.sheet";
 const VOLUME: &str = "target/examples/volume.sheet";
 
@@ -221,9 +222,9 @@ impl Texts<'_> {
 
     /// Each file's name and text.
     fn all(&self) -> Vec<(&'static str, String)> {
-        let corner = fs::read(CORNER).expect("the sheet is there");
+        let [corner, seam] = [CORNER, SEAM].map(|file| fs::read(file).expect("the sheet is there"));
         let ((toward, made), (volume, made_volume)) = (self.made(2, 4), self.made(3, 4));
-        let files = [(CORNER, &corner), (TOWARD, &toward), (VOLUME, &volume)];
+        let files = [(CORNER, &corner), (SEAM, &seam), (TOWARD, &toward), (VOLUME, &volume)];
         let starts =
             [("02010102", 0, 1), ("0203020101", 1, 2), ("0300010203", 1, 2), ("0301020381", 0, 2), ("030381028305", 0, 3)];
         vec![

@@ -25,8 +25,8 @@ fn sheet_of_kind(random: &mut Random, d: usize, kind: usize) -> Vec<u8> {
         0 => Forest::uniform(d, 0).sheet(random),
         1 => {
             let mut forest = Forest::uniform(d, 0);
-            let cell = forests::random_cell(random, d, d + 1);
-            forest.mended_to(&cell, d + 1);
+            let cell = forests::random_cell(random, d, d);
+            forest.mended_to(&cell, d); // deeper ones of dimension 4 are longer than what is cut at every length
             forest.sheet(random)
         }
         2 => forests::bytes(&deepest_sheet(random, d, 0)),

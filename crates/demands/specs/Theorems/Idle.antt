@@ -30,7 +30,8 @@ use Rattle.demands.specs.Rows.{path-to-code, cross, Answered, Holds, Eve
 use Rattle.demands.specs.Shown.{Shown, _and_, no-more, every}
 use Rattle.demands.specs.TwoLeaves.{twoLeaves, two-leaves}
 use Rattle.demands.specs.Theorems.Two.{demand-2}
-use Rattle.demands.specs.Theorems.Cracked.{fiveLeaves, five-leaves, two-compatible, five-incompatible}
+use Rattle.demands.specs.Seam.{seam}
+use Rattle.demands.specs.Theorems.Cracked.{two-compatible, seam-good, seam-incompatible}
 use Rattle.demands.specs.Idle.{NoIdleProgram}
 
 -- the codes of the two roots in dimension 2, and of path 01 on the first
@@ -119,13 +120,14 @@ unfolding Answered codeOf bytes nameOf nameBelow
 first-step r f = omega (arith, ap (λ (l : List ℕ). getD l 1 0) (path-to-code-determined (1 ∷ 2 ∷ []) (0 ∷ 1 ∷ []) (f (1 ∷ 2 ∷ []) (0 ∷ 1 ∷ []) five) (deeper-code five (omega arith)) .1))
 
 yes-to-all : (r : List ℕ → CompatibleAnswer) → ((sheet : List ℕ) (n : ℕ) → Good sheet n → r sheet .compatible ≡ 1) → ((sheet : List ℕ) → CompatibleIs sheet (r sheet)) → ⊥
-yes-to-all r h f = five-incompatible (demand-2 .compatible fiveLeaves (r fiveLeaves) (f fiveLeaves) 5 five-leaves .0 (h fiveLeaves 5 five-leaves))
+unfolding seam-good
+yes-to-all r h f = seam-incompatible (demand-2 .compatible seam (r seam) (f seam) 3 seam-good .0 (h seam 3 seam-good))
 
 no-to-all : (r : List ℕ → CompatibleAnswer) → ((sheet : List ℕ) (n : ℕ) → Good sheet n → r sheet .compatible ≡ 0) → ((sheet : List ℕ) → CompatibleIs sheet (r sheet)) → ⊥
 no-to-all r h f = omega (arith, h twoLeaves 2 two-leaves, demand-2 .compatible twoLeaves (r twoLeaves) (f twoLeaves) 2 two-leaves .1 two-compatible)
 
 thin-air : (count : ℕ) (r : List ℕ → SheetAnswer) → ((sheet : List ℕ) (n : ℕ) → Good sheet n → r sheet .records ≡ count) → ((sheet : List ℕ) → SheetIs sheet (r sheet)) → ⊥
-thin-air count r h f = omega (arith, h twoLeaves 2 two-leaves, h fiveLeaves 5 five-leaves, demand-2 .good-yes twoLeaves (r twoLeaves) (f twoLeaves) 2 two-leaves .1, demand-2 .good-yes fiveLeaves (r fiveLeaves) (f fiveLeaves) 5 five-leaves .1)
+thin-air count r h f = omega (arith, h twoLeaves 2 two-leaves, h seam 3 seam-good, demand-2 .good-yes twoLeaves (r twoLeaves) (f twoLeaves) 2 two-leaves .1, demand-2 .good-yes seam (r seam) (f seam) 3 seam-good .1)
 
 pub no-idle-program : NoIdleProgram
 no-idle-program = record {

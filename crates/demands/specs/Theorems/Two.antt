@@ -46,7 +46,8 @@ use Rattle.slopes.specs.declared.Slopes.{Slopes}
 use Rattle.slopes.specs.declared.Slope.{Slope}
 use Rattle.slopes.specs.declared.Slope.the-variants.{Along, Refused as NoSlope}
 use Rattle.compatible.specs.declared.CompatibleAnswer.{CompatibleAnswer}
-use Rattle.compatible.specs.Compatible.{CompatibleIs, Compatible, Judges, yes-all, not-all}
+use Rattle.rings.specs.Compatible.{Compatible}
+use Rattle.compatible.specs.Compatible.{CompatibleIs, Judges, yes-all, not-all}
 use Rattle.demands.specs.Two.{OneCode, There, SlopesThere, Demand2}
 
 -- what an entry that is done has written, at the front of the buffer
