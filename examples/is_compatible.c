@@ -1,5 +1,5 @@
 /*
- * Tests sheets for compatibility: across each facet inside the cube exactly one other leaf has all its vertices.
+ * Tests sheets for compatibility: of each facet in no face of the cube exactly one other leaf has all vertices.
  * Exit status 1 if one is refused or not compatible.
  */
 #include "bytes.h"

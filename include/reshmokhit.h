@@ -236,8 +236,8 @@ rmk_crossed rmk_cross(const uint8_t *code, size_t code_length, uint8_t facet, ui
 rmk_sheet_answer rmk_sheet_check(const uint8_t *sheet, size_t sheet_length);
 
 /** Compatibility test: are the leaves of a sheet compatible? They are when, for each leaf and each facet not
- * in a face of the cube, exactly one other leaf has all that facet's vertices. They are points, in whatever
- * order; another leaf is another record.
+ * in a face of the cube, exactly one other leaf has all that facet's vertices. Vertices are points, in
+ * whatever order; another leaf is another record.
  * \param [in] sheet    The sheet, as the sheet check takes it. The whole of it is checked at each call.
  * \return              The refusal, 1 for yes or 0 for no, and the refusal's offset.
  *

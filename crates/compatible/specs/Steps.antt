@@ -16,13 +16,11 @@ use Rattle.positions.specs.Positions.{startOf, sizeOf}
 use Rattle.positions.specs.RootNumbers.{numberIn}
 use Rattle.sheets.specs.Forests.{TreeCell}
 use Rattle.sheets.specs.Sheets.{GoodSheet, leafIn}
-use Rattle.sheets.specs.Theorems.Good.{good-tiles}
 use Rattle.sheets.specs.Theorems.Listing.{code-of-cell}
-use Rattle.finding.specs.Sizes.{start-joined, sizesTo, sizes-none, sizes-next, tiles-sum}
+use Rattle.finding.specs.Sizes.{start-joined, sizes-none, sizes-next}
 use Rattle.finding.specs.Records.{good-stretch}
-use Rattle.finding.specs.Walk.{leaf-good}
-use Rattle.finding.specs.Theorems.Nested.{part-ends, size-some, same-stretch}
-use Rattle.finding.specs.Theorems.OneOfThree.{CellOf}
+use Rattle.finding.specs.Theorems.Nested.{same-stretch}
+use Rattle.finding.specs.Theorems.OneOfThree.{CellOf, ends, start-under, leaf-cell, leaf-starts}
 use Rattle.rings.specs.Rings.{codeFor}
 
 -- the last step of a code's path, where it has one
@@ -72,9 +70,9 @@ child-start M path b l h = ap (λ (n : ℕ). n / 2 ^ (M - suc (length path)) % 2
     whole = start-joined M path (b ∷ []) ∙ ap (λ (n : ℕ). n + startOf (M - length path) (b ∷ [])) (o .1 ∙ ap (λ (n : ℕ). o .0 * n) twice ∙ sym (mul-assoc (o .0) 2 (2 ^ (M - suc (length path)))))
         ∙ ap (λ (n : ℕ). o .0 * 2 * 2 ^ (M - suc (length path)) + n) own ∙ sym (add-mul (o .0 * 2) b (2 ^ (M - suc (length path))))
 
--- a cell that starts at a place
-pub place-step : {d : ℕ} {c : TreeCell} → CellOf d c → {place size : ℕ} → place ≡ startOf (greatestDepth d) (c .path) → size ≡ sizeOf (greatestDepth d) (c .path) → LastStep (codeFor c) (place / size % 2)
-place-step {d} {c} g p-is z-is root path b x = rw (p-is, z-is, ← g .axes, one .0, one .1) (unfold sizeOf in ap (λ (n : ℕ). startOf (greatestDepth (length root)) (path ++ b ∷ []) / 2 ^ (greatestDepth (length root) - n) % 2) more
+-- a cell, by where it starts
+pub start-step : {d : ℕ} {c : TreeCell} → CellOf d c → {start size : ℕ} → start ≡ startOf (greatestDepth d) (c .path) → size ≡ sizeOf (greatestDepth d) (c .path) → LastStep (codeFor c) (start / size % 2)
+start-step {d} {c} g s-is z-is root path b x = rw (s-is, z-is, ← g .axes, one .0, one .1) (unfold sizeOf in ap (λ (n : ℕ). startOf (greatestDepth (length root)) (path ++ b ∷ []) / 2 ^ (greatestDepth (length root) - n) % 2) more
     ∙ child-start (greatestDepth (length root)) path b small (omega (arith, more, x .good-path .depth)))
   where
     one : (c .root ≡ root) × (c .path ≡ path ++ b ∷ [])
@@ -87,68 +85,62 @@ place-step {d} {c} g p-is z-is root path b x = rw (p-is, z-is, ← g .axes, one 
     small = rw (getD-at path b [] 0 (length path) refl) at (x .good-path .steps (length path) (omega (arith, more)))
 
 -- where the leaf after one starts: behind it, or at the front of the next root's stretch
-pub record NextPlace (place size stretch r : ℕ) : Type 0 where
-  pub behind : place + size < stretch → r ≡ place + size
-  pub front : stretch ≤ place + size → r ≡ 0
+pub record NextStart (start size stretch r : ℕ) : Type 0 where
+  pub behind : start + size < stretch → r ≡ start + size
+  pub front : stretch ≤ start + size → r ≡ 0
 
-pub next-behind : {place size stretch : ℕ} → place + size < stretch → NextPlace place size stretch (place + size)
+pub next-behind : {start size stretch : ℕ} → start + size < stretch → NextStart start size stretch (start + size)
 next-behind l = record { behind = λ h. refl; front = λ h. absurd (omega arith) }
 
-pub next-front : {place size stretch : ℕ} → stretch ≤ place + size → NextPlace place size stretch 0
+pub next-front : {start size stretch : ℕ} → stretch ≤ start + size → NextStart start size stretch 0
 next-front l = record { behind = λ h. absurd (omega arith); front = λ h. refl }
 
 module _ {mark : List ℕ} {width : ℕ} {sheet : List ℕ} {n : ℕ} (g : GoodSheet mark width sheet n) where
   abbrev M : ℕ
   M = greatestDepth (g .dimension)
 
-  abbrev placeOf : ℕ → ℕ
-  placeOf i = startOf (greatestDepth (g .dimension)) (leafIn (g .cells) i .path)
+  abbrev startAt : ℕ → ℕ
+  startAt i = startOf (greatestDepth (g .dimension)) (leafIn (g .cells) i .path)
 
-  abbrev partOf : ℕ → ℕ
-  partOf i = sizeOf (greatestDepth (g .dimension)) (leafIn (g .cells) i .path)
+  abbrev partAt : ℕ → ℕ
+  partAt i = sizeOf (greatestDepth (g .dimension)) (leafIn (g .cells) i .path)
 
   abbrev rootNumber : ℕ → ℕ
   rootNumber i = numberIn (g .dimension) (leafIn (g .cells) i .root) (g .dimension)
 
-  starts : (i : ℕ) → i < length (g .cells) → rootNumber i * 2 ^ M + placeOf i ≡ sizesTo M (g .cells) i
-  starts i l = tiles-sum (g .dimension) M 0 (good-tiles g) refl i l ∙ omega arith
+  part-ends : (i : ℕ) → i < length (g .cells) → startAt i + partAt i ≤ 2 ^ M
+  part-ends i l = ends (leaf-cell g i l)
 
-  ends : (i : ℕ) → i < length (g .cells) → placeOf i + partOf i ≤ 2 ^ M
-  ends i l = let h = leaf-good g i l in part-ends M (leafIn (g .cells) i .path) (record { small = h .0 .good-path .steps }) (rw (← h .1) (h .0 .good-path .depth))
-
-  under : (i : ℕ) → i < length (g .cells) → placeOf i < 2 ^ M
-  under i l = omega (arith, ends i l, size-some M (leafIn (g .cells) i .path))
-
-  pub place-first : 0 < length (g .cells) → placeOf 0 ≡ 0
-  place-first l = omega (arith, starts 0 l, sizes-none M (g .cells))
+  pub start-first : 0 < length (g .cells) → startAt 0 ≡ 0
+  start-first l = omega (arith, leaf-starts g 0 l, sizes-none M (g .cells))
 
   module _ {i : ℕ} (l : suc i < length (g .cells)) where
     from : i < length (g .cells)
     from = omega arith
 
-    next : rootNumber (suc i) * 2 ^ M + placeOf (suc i) ≡ rootNumber i * 2 ^ M + placeOf i + partOf i
-    next = omega (arith, starts i from, starts (suc i) l, sizes-next M (g .cells) i from)
+    next : rootNumber (suc i) * 2 ^ M + startAt (suc i) ≡ rootNumber i * 2 ^ M + startAt i + partAt i
+    next = omega (arith, leaf-starts g i from, leaf-starts g (suc i) l, sizes-next M (g .cells) i from)
 
     -- in the same stretch
-    same : placeOf i + partOf i < 2 ^ M → placeOf (suc i) ≡ placeOf i + partOf i
+    same : startAt i + partAt i < 2 ^ M → startAt (suc i) ≡ startAt i + partAt i
     same h = omega (arith, next, ap (λ (r : ℕ). r * 2 ^ M) one)
       where
         one : rootNumber i ≡ rootNumber (suc i)
-        one = same-stretch (2 ^ M) (rootNumber i) (rootNumber (suc i)) (placeOf i + partOf i) (placeOf (suc i)) (2 ^ M - (placeOf i + partOf i)) (omega (arith, next)) (omega (arith, next)) (omega arith) (under (suc i) l)
+        one = same-stretch (2 ^ M) (rootNumber i) (rootNumber (suc i)) (startAt i + partAt i) (startAt (suc i)) (2 ^ M - (startAt i + partAt i)) (omega (arith, next)) (omega (arith, next)) (omega arith) (start-under (leaf-cell g (suc i) l))
 
     -- at the front of the next one
-    turned : 2 ^ M ≤ placeOf i + partOf i → placeOf (suc i) ≡ 0
-    turned h = omega (arith, next, ends i from, suc-mul (rootNumber i) (2 ^ M), ap (λ (r : ℕ). r * 2 ^ M) one)
+    turned : 2 ^ M ≤ startAt i + partAt i → startAt (suc i) ≡ 0
+    turned h = omega (arith, next, part-ends i from, suc-mul (rootNumber i) (2 ^ M), ap (λ (r : ℕ). r * 2 ^ M) one)
       where
         one : suc (rootNumber i) ≡ rootNumber (suc i)
-        one = same-stretch (2 ^ M) (suc (rootNumber i)) (rootNumber (suc i)) 0 (placeOf (suc i)) (2 ^ M) (omega (arith, next, ends i from, suc-mul (rootNumber i) (2 ^ M))) (omega (arith, next, ends i from, suc-mul (rootNumber i) (2 ^ M), pow-pos M)) (omega arith) (under (suc i) l)
+        one = same-stretch (2 ^ M) (suc (rootNumber i)) (rootNumber (suc i)) 0 (startAt (suc i)) (2 ^ M) (omega (arith, next, part-ends i from, suc-mul (rootNumber i) (2 ^ M))) (omega (arith, next, part-ends i from, suc-mul (rootNumber i) (2 ^ M), pow-pos M)) (omega arith) (start-under (leaf-cell g (suc i) l))
 
-    pub place-next : {place size r : ℕ} → place ≡ placeOf i → size ≡ partOf i → NextPlace place size (2 ^ M) r → r ≡ placeOf (suc i)
-    place-next {place} {size} {r} p-is z-is h = go (decLt (place + size) (2 ^ M))
+    pub start-next : {start size r : ℕ} → start ≡ startAt i → size ≡ partAt i → NextStart start size (2 ^ M) r → r ≡ startAt (suc i)
+    start-next {start} {size} {r} s-is z-is h = go (decLt (start + size) (2 ^ M))
       where
-        go : Dec (place + size < 2 ^ M) → r ≡ placeOf (suc i)
-        go (yes q) = omega (arith, h .behind q, p-is, z-is, same (omega (arith, q, p-is, z-is)))
-        go (no q) = omega (arith, h .front (omega arith), turned (omega (arith, p-is, z-is)))
+        go : Dec (start + size < 2 ^ M) → r ≡ startAt (suc i)
+        go (yes q) = omega (arith, h .behind q, s-is, z-is, same (omega (arith, q, s-is, z-is)))
+        go (no q) = omega (arith, h .front (omega arith), turned (omega (arith, s-is, z-is)))
 
-  pub place-fits : {i : ℕ} → i < length (g .cells) → {place size : ℕ} → place ≡ placeOf i → size ≡ partOf i → place + size < 2 ^ 64
-  place-fits {i} l p-is z-is = omega (arith, p-is, z-is, ends i l, good-stretch (g .dimension) (g .is-dimension))
+  pub start-fits : {i : ℕ} → i < length (g .cells) → {start size : ℕ} → start ≡ startAt i → size ≡ partAt i → start + size < 2 ^ 64
+  start-fits {i} l s-is z-is = omega (arith, s-is, z-is, part-ends i l, good-stretch (g .dimension) (g .is-dimension))

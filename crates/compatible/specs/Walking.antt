@@ -26,7 +26,7 @@ use Rattle.finding.specs.Walk.{From, from-start, Here, here, leaf-good}
 use Rattle.finding.specs.Theorems.OneOfThree.{CellOf}
 use Rattle.compatible.specs.declared.Judged.{Judged}
 use Rattle.rings.specs.Rings.{codeFor, AllPass, FirstPass}
-use Rattle.compatible.specs.Steps.{LastStep, place-step, NextPlace, place-first, place-next, place-fits}
+use Rattle.compatible.specs.Steps.{LastStep, start-step, NextStart, start-first, start-next, start-fits}
 use Rattle.compatible.specs.FacetLaws.{FacetReady, FacetIs}
 
 -- ---- all facets of a leaf
@@ -87,11 +87,11 @@ module _ {mark : List ℕ} {width : ℕ} {sheet : List ℕ} {d : ℕ} {index : L
 -- ---- the leaf of a record
 
 -- an index of a good sheet, a record of it, and where its leaf starts on its root's stretch
-pub record RecordReady (mark : List ℕ) (width : ℕ) (sheet : List ℕ) (d : ℕ) (index : List ℕ) (spread : Spread) (offset place : ℕ) : Type 0 where
+pub record RecordReady (mark : List ℕ) (width : ℕ) (sheet : List ℕ) (d : ℕ) (index : List ℕ) (spread : Spread) (offset start : ℕ) : Type 0 where
   pub indexed : Indexed mark width sheet d index spread
   pub number : ℕ
   pub at : AtRecord mark width sheet d (greatestDepth d) number offset
-  pub starts : place ≡ startOf (greatestDepth d) (leafIn (at .good .cells) number .path)
+  pub starts : start ≡ startOf (greatestDepth d) (leafIn (at .good .cells) number .path)
 
 -- what is said of its leaf; how long the record is, and how long the leaf's part
 pub record RecordHolds (mark : List ℕ) (width : ℕ) (sheet : List ℕ) (d offset : ℕ) (r : Judged) : Type 0 where
@@ -131,7 +131,7 @@ module _ {mark : List ℕ} {width : ℕ} {sheet : List ℕ} {d offset depth : �
         → RecordHolds mark width sheet d offset (record { holds = b; length = step; size = size })
     record-holds {b} h is-step = record { leaf = λ r. subst (λ (l : List ℕ). LeafHolds mark width sheet d l b) (here-is r) h; next = λ r. record-next r is is-step; part = part-is }
 
-module _ {mark : List ℕ} {width : ℕ} {sheet : List ℕ} {d : ℕ} {index : List ℕ} {spread : Spread} {offset place : ℕ} (ready : RecordReady mark width sheet d index spread offset place)
+module _ {mark : List ℕ} {width : ℕ} {sheet : List ℕ} {d : ℕ} {index : List ℕ} {spread : Spread} {offset start : ℕ} (ready : RecordReady mark width sheet d index spread offset start)
     {depth : ℕ} (is : depth ≡ frontDepth (onward sheet (offset + length mark))) {a code : ℕ} (axes : a ≡ d) (code-is : code ≡ codeLength a depth) where
   pub record-end : offset + length mark + code ≤ length sheet
   record-end = end-inside is axes code-is (ready .at)
@@ -150,11 +150,11 @@ module _ {mark : List ℕ} {width : ℕ} {sheet : List ℕ} {d : ℕ} {index : L
       pub record-some : 0 < size
       record-some = rw power (pow-pos (deepest - depth))
 
-      pub record-leaf : LeafReady mark width sheet d index spread (codeHere mark sheet offset code) × (d ≤ 4) × LastStep (codeHere mark sheet offset code) (place / size % 2)
+      pub record-leaf : LeafReady mark width sheet d index spread (codeHere mark sheet offset code) × (d ≤ 4) × LastStep (codeHere mark sheet offset code) (start / size % 2)
       record-leaf = (
         record { indexed = ready .indexed; cell = leafIn (ready .at .good .cells) (ready .number); good = leaf-in (ready .at); is = here-is is axes code-is (ready .at) },
         dimension d (record-known (ready .at)) .few,
-        rw (here-is is axes code-is (ready .at)) (place-step (leaf-in (ready .at)) (ready .starts) (part-is is axes code-is deepest-is power (ready .at))),
+        rw (here-is is axes code-is (ready .at)) (start-step (leaf-in (ready .at)) (ready .starts) (part-is is axes code-is deepest-is power (ready .at))),
       )
 
 -- ---- all leaves of a sheet
@@ -170,13 +170,13 @@ pub record SheetHolds (mark : List ℕ) (width : ℕ) (sheet : List ℕ) (r : Bo
   pub fails : r ≡ false → {n : ℕ} (g : GoodSheet mark width sheet n) → AllPass (g .dimension) (g .cells) → ⊥
 
 -- in the loop: so of the leaves before a number, and where that one starts
-pub record Judging (mark : List ℕ) (width : ℕ) (sheet : List ℕ) (d records size : ℕ) (index : List ℕ) (spread : Spread) (stretch number offset place : ℕ) : Type 0 where
+pub record Judging (mark : List ℕ) (width : ℕ) (sheet : List ℕ) (d records size : ℕ) (index : List ℕ) (spread : Spread) (stretch number offset start : ℕ) : Type 0 where
   pub ready : SheetReady mark width sheet d records index spread
   pub at : From (ready .good) number offset
   pub long : length sheet < 2 ^ 64
   pub size-is : length index ≡ size
   pub stretch-is : stretch ≡ 2 ^ greatestDepth (ready .good .dimension)
-  pub starts : number < records → place ≡ startOf (greatestDepth (ready .good .dimension)) (leafIn (ready .good .cells) number .path)
+  pub starts : number < records → start ≡ startOf (greatestDepth (ready .good .dimension)) (leafIn (ready .good .cells) number .path)
   pub held : (m : ℕ) → m < number → LeafHolds mark width sheet d (codeFor (leafIn (ready .good .cells) m)) true
 
 module _ {mark : List ℕ} {width : ℕ} {sheet : List ℕ} {d records : ℕ} {index : List ℕ} {spread : Spread} where
@@ -191,11 +191,11 @@ module _ {mark : List ℕ} {width : ℕ} {sheet : List ℕ} {d records : ℕ} {i
     long = l;
     size-is = refl;
     stretch-is = power ∙ ap (λ (n : ℕ). 2 ^ n) (deepest-is ∙ ap greatestDepth (axes ∙ sym (r .axes)));
-    starts = λ h. sym (place-first (r .good) (omega (arith, r .good .count)));
+    starts = λ h. sym (start-first (r .good) (omega (arith, r .good .count)));
     held = λ m l. absurd (omega arith);
   }
 
-  module _ {size stretch number offset place : ℕ} (s : Judging mark width sheet d records size index spread stretch number offset place) where
+  module _ {size stretch number offset start : ℕ} (s : Judging mark width sheet d records size index spread stretch number offset start) where
     module _ (l : number < records) where
       abbrev at-record : AtRecord mark width sheet d (greatestDepth d) number offset
       at-record = record { count = records; good = s .ready .good; axes = s .ready .axes; long = s .long; deepest-is = refl; small = omega (arith, s .ready .good .count); at = s .at }
@@ -203,7 +203,7 @@ module _ {mark : List ℕ} {width : ℕ} {sheet : List ℕ} {d records : ℕ} {i
       pub judging-about : AboutReady mark width sheet d records index spread number
       judging-about = record { indexed = s .ready .indexed; good = s .ready .good; small = l }
 
-      pub judging-record : {index′ : List ℕ} {spread′ : Spread} → Indexed mark width sheet d index′ spread′ → RecordReady mark width sheet d index′ spread′ offset place
+      pub judging-record : {index′ : List ℕ} {spread′ : Spread} → Indexed mark width sheet d index′ spread′ → RecordReady mark width sheet d index′ spread′ offset start
       judging-record i = record { indexed = i; number = number; at = at-record; starts = s .starts l ∙ ap (λ (n : ℕ). startOf (greatestDepth n) (leafIn (s .ready .good .cells) number .path)) (s .ready .axes) }
 
       -- a leaf with a facet that does not pass
@@ -221,21 +221,21 @@ module _ {mark : List ℕ} {width : ℕ} {sheet : List ℕ} {d records : ℕ} {i
         part-here : r .size ≡ sizeOf (greatestDepth (s .ready .good .dimension)) (leafIn (s .ready .good .cells) number .path)
         part-here = h .part at-record ∙ ap (λ (n : ℕ). sizeOf (greatestDepth n) (leafIn (s .ready .good .cells) number .path)) (sym (s .ready .axes))
 
-        pub judging-ends : place + r .size < 2 ^ 64
-        judging-ends = place-fits (s .ready .good) (at-record .small) (s .starts l) part-here
+        pub judging-ends : start + r .size < 2 ^ 64
+        judging-ends = start-fits (s .ready .good) (at-record .small) (s .starts l) part-here
 
         pub judging-fits : offset + r .length < 2 ^ 64
         judging-fits = omega (arith, h .next at-record .inside, s .long)
 
-        pub judging-next : not (r .holds) ≡ false → {index′ : List ℕ} {spread′ : Spread} → Indexed mark width sheet d index′ spread′ → length index′ ≡ length index → {place′ : ℕ} → NextPlace place (r .size) stretch place′
-            → Judging mark width sheet d records size index′ spread′ stretch (number + 1) (offset + r .length) place′
-        judging-next e i size-same {place′} p = rw (one-more number) (record {
+        pub judging-next : not (r .holds) ≡ false → {index′ : List ℕ} {spread′ : Spread} → Indexed mark width sheet d index′ spread′ → length index′ ≡ length index → {start′ : ℕ} → NextStart start (r .size) stretch start′
+            → Judging mark width sheet d records size index′ spread′ stretch (number + 1) (offset + r .length) start′
+        judging-next e i size-same {start′} p = rw (one-more number) (record {
           ready = record { indexed = i; good = s .ready .good; axes = s .ready .axes };
           at = h .next at-record;
           long = s .long;
           size-is = size-same ∙ s .size-is;
           stretch-is = s .stretch-is;
-          starts = λ o. place-next (s .ready .good) (omega (arith, o, s .ready .good .count)) (s .starts l) part-here (subst (λ (n : ℕ). NextPlace place (r .size) n place′) (s .stretch-is) p);
+          starts = λ o. start-next (s .ready .good) (omega (arith, o, s .ready .good .count)) (s .starts l) part-here (subst (λ (n : ℕ). NextStart start (r .size) n start′) (s .stretch-is) p);
           held = λ m o. go m o (ℕ-discrete m number);
         })
           where

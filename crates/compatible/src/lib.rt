@@ -6,7 +6,7 @@ ghost use Rattle.sheets.specs.Steps.{markOf};
 ghost use Rattle.finding.specs.Opened.{Checked};
 ghost use Rattle.compatible.specs.Compatible.{yes-or-no, CompatibleIs};
 ghost use Rattle.compatible.specs.Looks.{LookReady, LookIs};
-ghost use Rattle.compatible.specs.Steps.{LastStep, NextPlace};
+ghost use Rattle.compatible.specs.Steps.{LastStep, NextStart};
 ghost use Rattle.compatible.specs.FacetLaws.{FacetReady, FacetIs};
 ghost use Rattle.compatible.specs.Walking.{LeafReady, LeafHolds, RecordReady, RecordHolds, SheetReady, SheetHolds};
 use bisection::DONE;
@@ -29,8 +29,8 @@ const ENTRIES: usize = 10240;
 
 const INDEX_ROOM: usize = 3 * ENTRIES;
 
-// Whether one look at the cell across a facet tells that another leaf has the facet's vertices: the cell is present, a leaf or split; or
-// its parent is a leaf, and its new vertex, which stands at a place, is its newest one.
+// Whether a facet passes, by one look at the cell across: the cell is present, a leaf or split; or its parent is a leaf, and its new vertex,
+// which stands at a place, is its newest one.
 fn is_matched(
     edition: Edition,
     sheet: &[u8],
@@ -123,8 +123,8 @@ pub struct Judged {
     pub size: u64,
 }
 
-// The same of the leaf of the record at an offset, which starts at a place of its root's stretch: child 0 has the first half of its
-// parent's part, child 1 the second.
+// The same of the leaf of the record at an offset, from where it starts on its root's stretch: child 0 has the first half of its parent's
+// part, child 1 the second.
 fn record_holds(
     edition: Edition,
     sheet: &[u8],
@@ -132,18 +132,18 @@ fn record_holds(
     index: &[u64],
     spread: Spread,
     offset: usize,
-    place: u64,
+    start: u64,
 ) -> Judged
-    requires { ⌜ RecordReady (markOf edition) (edition .width) (now sheet) dimension (now index) spread offset place ⌝ }
+    requires { ⌜ RecordReady (markOf edition) (edition .width) (now sheet) dimension (now index) spread offset start ⌝ }
     ensures { λ r. ⌜ RecordHolds (markOf edition) (edition .width) (now (sheet .entry)) dimension offset r ⌝ }
 {
-    let start = offset + sheets::MARK_LENGTH;
-    let depth = codes::code_depth(&sheet[start..]);
+    let at = offset + sheets::MARK_LENGTH;
+    let depth = codes::code_depth(&sheet[at..]);
     let dim = Dim::checked(dimension);
-    let end = start + dim.code_length(depth);
+    let end = at + dim.code_length(depth);
     let size = positions::power(dim.greatest_depth() - depth);
-    let step = place / size % 2;
-    let code = &sheet[start..end];
+    let step = start / size % 2;
+    let code = &sheet[at..end];
     let holds = leaf_holds(edition, sheet, dimension, index, spread, code, step);
     let length = finding::record_length(edition, dimension, depth);
     Judged {
@@ -154,11 +154,11 @@ fn record_holds(
 }
 
 // Where the leaf after one starts on its root's stretch: behind it, or at the front of the next root's.
-fn next_place(place: u64, size: u64, stretch: u64) -> u64
-    requires { ⌜ place + size < 2 ^ 64 ⌝ }
-    ensures { λ r. ⌜ NextPlace place size stretch r ⌝ }
+fn next_start(start: u64, size: u64, stretch: u64) -> u64
+    requires { ⌜ start + size < 2 ^ 64 ⌝ }
+    ensures { λ r. ⌜ NextStart start size stretch r ⌝ }
 {
-    let end = place + size;
+    let end = start + size;
     if end < stretch {
         return end;
     }
@@ -180,17 +180,17 @@ fn all_hold(
     let stretch = positions::power(Dim::checked(dimension).greatest_depth());
     let mut number: usize = 0;
     let mut offset: usize = 0;
-    let mut place: u64 = 0;
+    let mut start: u64 = 0;
     let mut about = spread;
     while number < records {
         about = finding::index_about(edition, sheet, dimension, records, index, about, number);
-        let judged = record_holds(edition, sheet, dimension, index, about, offset, place);
+        let judged = record_holds(edition, sheet, dimension, index, about, offset, start);
         if !judged.holds {
             return false;
         }
         number += 1;
         offset += judged.length;
-        place = next_place(place, judged.size, stretch);
+        start = next_start(start, judged.size, stretch);
     }
     true
 }

@@ -10,11 +10,11 @@ use Rattle.compatible.proofs.all_hold.Statement.{statement}
 use Rattle.compatible.proofs.all_hold.Tie as tie
 
 abbrev Inv-loop : tie.InvT-loop
-Inv-loop edition sheet dimension records index₀ stretch number₀ offset₀ place₀ about₀ index number offset place about =
-    Judging (markOf edition) (edition .width) sheet dimension records (length index₀) index about stretch number offset place
+Inv-loop edition sheet dimension records index₀ stretch number₀ offset₀ start₀ about₀ index number offset start about =
+    Judging (markOf edition) (edition .width) sheet dimension records (length index₀) index about stretch number offset start
 
 abbrev μ-loop : tie.MeasureT-loop
-μ-loop edition sheet dimension records index₀ stretch number₀ offset₀ place₀ about₀ index number offset place about = records - number
+μ-loop edition sheet dimension records index₀ stretch number₀ offset₀ start₀ about₀ index number offset start about = records - number
 
 pub all-hold-spec : {M : Type 1} → statement M
 all-hold-spec =

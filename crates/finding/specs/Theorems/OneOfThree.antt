@@ -43,7 +43,7 @@ steps-of g = record { small = g .good .good-path .steps }
 deep : {d : ℕ} {c : TreeCell} → CellOf d c → length (c .path) ≤ greatestDepth d
 deep {d} {c} g = rw (← g .axes) (g .good .good-path .depth)
 
-ends : {d : ℕ} {c : TreeCell} → CellOf d c → startOf (greatestDepth d) (c .path) + size d c ≤ 2 ^ greatestDepth d
+pub ends : {d : ℕ} {c : TreeCell} → CellOf d c → startOf (greatestDepth d) (c .path) + size d c ≤ 2 ^ greatestDepth d
 ends {d} {c} g = part-ends (greatestDepth d) (c .path) (steps-of g) (deep g)
 
 pub start-under : {d : ℕ} {c : TreeCell} → CellOf d c → startOf (greatestDepth d) (c .path) < 2 ^ greatestDepth d
@@ -110,11 +110,11 @@ module _ {mark : List ℕ} {width : ℕ} {sheet : List ℕ} {n : ℕ} (g : GoodS
   abbrev leafAt : ℕ → TreeCell
   leafAt i = leafIn (g .cells) i
 
-  leaf-cell : (i : ℕ) → i < length (g .cells) → CellOf (g .dimension) (leafAt i)
+  pub leaf-cell : (i : ℕ) → i < length (g .cells) → CellOf (g .dimension) (leafAt i)
   leaf-cell i l = let h = leaf-good g i l in record { good = h .0; axes = h .1 }
 
   -- a leaf starts where the sizes of those before it add up to
-  leaf-starts : (i : ℕ) → i < length (g .cells) → starts (g .dimension) (leafAt i) ≡ sizesTo M (g .cells) i
+  pub leaf-starts : (i : ℕ) → i < length (g .cells) → starts (g .dimension) (leafAt i) ≡ sizesTo M (g .cells) i
   leaf-starts i l = tiles-sum (g .dimension) M 0 (good-tiles g) refl i l ∙ omega arith
 
   module _ {c : TreeCell} (h : CellOf (g .dimension) c) where

@@ -16,8 +16,7 @@ use Rattle.sheets.specs.Sheets.{Records, none, more, GoodSheet, leafIn}
 use Rattle.finding.specs.declared.Kind.{Kind}
 use Rattle.finding.specs.declared.Kind.the-variants.{Leaf, Inside, Split}
 use Rattle.finding.specs.Finding.{LiesIn, StrictlyIn, Among, is-leaf, inside, split as split-into}
-use Rattle.finding.specs.Walk.{leaf-good}
-use Rattle.finding.specs.Theorems.OneOfThree.{CellOf, cell-among, among-one}
+use Rattle.finding.specs.Theorems.OneOfThree.{CellOf, leaf-cell as sheet-leaf, cell-among, among-one}
 use Rattle.rings.specs.Compatible.{verticesOf, HasFacet, OneHasFacet, Compatible}
 use Rattle.rings.specs.Rings.{codeFor, IsLeaf, IsSplit, leaf, split, Matched, present, parent}
 use Rattle.rings.specs.Theorems.Lying.{lies-is, strictly-trans, strictly-child, parent-lies, one-below}
@@ -49,7 +48,7 @@ module _ (d : ℕ) {leaves : List TreeCell} (known : isDimension d ≡ true) (v 
 
   leaf-cell : (i : ℕ) → i < length leaves → CellOf d (leafIn leaves i)
   unfolding good
-  leaf-cell i l = let h = leaf-good good i l in record { good = h .0; axes = h .1 }
+  leaf-cell i l = sheet-leaf good i l
 
   pub leaf-real : {c : TreeCell} → IsLeaf leaves c → CellOf d c
   leaf-real m = subst (CellOf d) (m .is) (leaf-cell (m .number) (m .small))
