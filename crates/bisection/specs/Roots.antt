@@ -1,6 +1,6 @@
 -- Document 01, "The cube and the bisection" and "Sheets": a root is a permutation of the axes 1..d,
 -- and the roots have the dictionary order of their permutations. A path's bytes are 0 or 1.
-use Rattle.std.specs.Prelude.{◌≡◌, List, [], ◌∷◌, ◌++◌, map, ℕ, zero, suc, ◌+◌, ◌≤◌, ◌<◌, length, get_or, true}
+use Rattle.std.specs.Prelude.{◌≡◌, List, [], ◌∷◌, ◌++◌, map, ℕ, zero, suc, ◌≤◌, ◌<◌, length, get_or, true}
 use Rattle.dimension.specs.Sizes.{is_dimension, greatest_depth}
 
 -- each of the d entries is an axis 1..d, and none is repeated

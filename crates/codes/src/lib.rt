@@ -1,6 +1,8 @@
 // The code layer: check, path to code, code to path, vertices, child, parent. Each entry takes any bytes, numbers
 // and lent buffers and tests its own input; an early `return` for each refusal stands in document 01's order, and
 // nothing is written before the last refusal is past. No entry has a requires.
+#![tactic(auto)]
+
 ghost use Rattle.std.specs.Prelude.{◌≡◌, Bool, true, false, not, cond, ◌+◌, ◌-◌, ◌≤◌, ◌<◌, length, get_or, drop};
 ghost use Rattle.dimension.specs.Sizes.{axes_of};
 ghost use Rattle.bisection.specs.Refusals.{code_refusal};
@@ -17,7 +19,7 @@ use fours::words;
 use steps::walks;
 
 // What the head at the front of bytes says: its refusal, or the dimension and the length of the code that begins with it.
-#[derive(Drop)]
+#[derive(Clone, Copy)]
 pub struct Head {
     pub refusal: u8,
     pub dimension: u8,
@@ -26,7 +28,7 @@ pub struct Head {
 
 // The answer of an entry that writes one buffer: how many bytes stand at its front.
 #[repr(C)]
-#[derive(Drop)]
+#[derive(Clone, Copy)]
 pub struct Written {
     pub refusal: u8,
     pub length: usize,
@@ -34,7 +36,7 @@ pub struct Written {
 
 // The answer of code to path: how many bytes stand at the front of each buffer.
 #[repr(C)]
-#[derive(Drop)]
+#[derive(Clone, Copy)]
 pub struct PathWritten {
     pub refusal: u8,
     pub axes: usize,

@@ -1,5 +1,5 @@
 -- Bytes put into a buffer at a place, one part after the other.
-use Rattle.std.specs.Prelude.{◌≡◌, refl, ℕ, suc, ◌+◌, ◌-◌, ◌≤◌, ◌<◌, take, set}
+use Rattle.std.specs.Prelude.{◌≡◌, refl, ℕ, suc, ◌+◌, ◌≤◌, ◌<◌, take, set}
 use Rattle.std.proofs.Common.{sym, ◌∙◌, arith, length-take, take-append-drop, take_at, drop_at, take_all, drop-drop}
 use Rattle.std.proofs.Math.Path.{ap}
 use mathlib.Core.List.{List, [], ◌∷◌, ◌++◌, append_assoc, append-nil}

@@ -1,5 +1,7 @@
 // The compatibility test of a sheet: one look at the cell across a facet, for each leaf that is child 0 and each of its facets but facet 0.
 // What a look tells stands in `is_matched`; the walk over leaves and facets knows only whether a facet passes.
+#![tactic(auto)]
+
 ghost use Rattle.std.specs.Prelude.{◌+◌, ◌^◌, ◌≤◌, ◌<◌};
 ghost use Rattle.sheets.specs.Sheets.{sheet_mark, sample_width};
 ghost use Rattle.sheets.specs.Steps.{mark_of};
@@ -17,7 +19,7 @@ use sheets::Edition;
 
 // The answer: where a refused record begins; 1 for yes, 0 for no.
 #[repr(C)]
-#[derive(Drop)]
+#[derive(Clone, Copy)]
 pub struct CompatibleAnswer {
     pub refusal: u8,
     pub compatible: u8,
@@ -117,7 +119,7 @@ fn leaf_holds(
 }
 
 // What is said of a record: whether those facets of its leaf pass, how many bytes it has, and how long its leaf's part of the line is.
-#[derive(Drop)]
+#[derive(Clone, Copy)]
 pub struct Judged {
     pub holds: bool,
     pub length: usize,

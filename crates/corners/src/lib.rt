@@ -1,6 +1,8 @@
 // The vertices of a code that passes. A point is one word: its coordinates, 16 bits for each axis, axis 1 lowest. The orthants give the
 // low sides of the box as such a word, and each entry adds what a vertex has above the low side on its axis. No branch is on a byte of
 // the code: how many orthants there are, and which axis an entry has, can't be foreseen.
+#![tactic(auto)]
+
 ghost use Rattle.std.specs.Prelude.{◌≡◌, cond, ◌+◌, ◌-◌, ◌*◌, ◌^◌, ◌≤◌, ◌<◌, leb, pos, ◌+ℤ◌, length, drop};
 ghost use Rattle.common.specs.Putting.{Puts};
 ghost use Rattle.dimension.specs.Sizes.{box_side};

@@ -2,6 +2,8 @@
 // and numbers; an early `return` for each refusal stands in document 01's order, and nothing is written before the
 // last refusal is past. A crossing stays in the cell's box, where it rearranges the entries, or leaves it for the
 // box beside it, where the orthants change by carry.
+#![tactic(auto)]
+
 ghost use Rattle.std.specs.Prelude.{◌≡◌, length};
 ghost use Rattle.bisection.specs.Codes.{orthants_of};
 ghost use Rattle.bisection.specs.Refusals.{done, code_refusal};
@@ -21,7 +23,7 @@ use steps::buffers;
 
 // A vertex by value: its coordinate on each axis, axis 1 first, and 0 on an axis that the dimension lacks.
 #[repr(C)]
-#[derive(Drop)]
+#[derive(Clone, Copy)]
 pub struct Vertex {
     pub first: u16,
     pub second: u16,
@@ -31,7 +33,7 @@ pub struct Vertex {
 
 // The answer: the place of the new vertex, how many bytes of the code across stand at the buffer's front, and the new vertex.
 #[repr(C)]
-#[derive(Drop)]
+#[derive(Clone, Copy)]
 pub struct Crossed {
     pub refusal: u8,
     pub place: u8,

@@ -1,12 +1,14 @@
 // The dimension type and every size that belongs to it. A size has one home: here for the code, and
 // specs/Sizes.antt for the contracts. To change the halvings, edit HALVINGS and CUBE_SIDE here and
 // `halvings` there; nothing else in code or definitions names a number of them.
+#![tactic(auto)]
+
 ghost use Rattle.std.specs.Prelude.{◌≡◌, true, ◌*◌, ◌≤◌};
 ghost use Rattle.dimension.specs.Sizes.{is_dimension, axes_of, greatest_depth, box_depth, split_place, box_side, code_length, longest_code, points_length, root_count};
 ghost use Rattle.dimension.specs.Known.{KnownIs};
 
 // A dimension that is built.
-#[derive(Drop)]
+#[derive(Clone, Copy)]
 pub enum Dim {
     Two,
     Three,
@@ -14,7 +16,7 @@ pub enum Dim {
 }
 
 // What a number of axes says.
-#[derive(Drop)]
+#[derive(Clone, Copy)]
 pub enum Known {
     Dimension(Dim),
     Nothing,

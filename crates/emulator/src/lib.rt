@@ -1,5 +1,7 @@
 // The C side: one exported function for each entry, with the entry's own contract. include/reshmokhit.h declares them.
 // A slice is a pointer and a length there; what is assumed of the pointers stands in the header.
+#![tactic(auto)]
+
 ghost use Rattle.std.specs.Prelude.{◌≡◌};
 ghost use Rattle.bisection.specs.Refusals.{code_refusal};
 ghost use Rattle.codes.specs.Outcomes.{PathToCode, CodeToPath, Vertices, Child, Parent};

@@ -1,5 +1,5 @@
 -- The orthants or-ed, four at a time: no byte of a word has a bit at d or above just where no orthant that is in it has one.
-use Rattle.std.specs.Prelude.{◌≡◌, refl, true, false, List, [], ◌∷◌, eqb, length, drop}
+use Rattle.std.specs.Prelude.{◌≡◌, refl, true, false, List, eqb, length, drop}
 use Rattle.std.proofs.Math.Path.{sym, ap, subst}
 use Rattle.std.proofs.Common.{◌∙◌, div-add-mod', mod-lt, pow_pos, get_or-drop, Fits, lt-ltb, eq-eqb, ne_eqb, ltb-true}
 use Rattle.std.proofs.Math.Bool.{Bool}

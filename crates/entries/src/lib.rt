@@ -1,4 +1,6 @@
 // Signed entries and orthant bytes. An entry's byte is its axis, plus 128 for minus; it is an i8 where it is negated.
+#![tactic(auto)]
+
 pub mod check; // check.rt: the walks that test a body
 pub mod words; // words.rt: bytes as one word
 

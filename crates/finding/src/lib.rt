@@ -1,5 +1,7 @@
 // Finding a cell in a checked sheet. The leaves fill the line of all cells, so the leaf whose part holds a place is found by adding up
 // sizes: of each record its depth is read alone.
+#![tactic(auto)]
+
 pub mod opened; // opened.rt: the whole check of a sheet
 
 ghost use Rattle.std.specs.Prelude.{◌≡◌, true, suc, ◌+◌, ◌*◌, ◌≤◌, ◌<◌, length};
@@ -17,7 +19,7 @@ use positions::Position;
 use sheets::Edition;
 
 // A record of a checked sheet: its number, where it begins, and how deep its leaf is.
-#[derive(Drop)]
+#[derive(Clone, Copy)]
 pub struct Sought {
     pub number: usize,
     pub offset: usize,
@@ -35,7 +37,7 @@ pub fn record_length(edition: Edition, dimension: u8, depth: usize) -> usize
 }
 
 // How far a place is ahead: whole stretches of a root, and a part of one. In one number it would not fit for all limits.
-#[derive(Drop)]
+#[derive(Clone, Copy)]
 pub struct Ahead {
     pub stretches: usize,
     pub part: u64,
@@ -128,7 +130,7 @@ pub fn seek(
 
 // Entries of an index that stand one behind the other: so many, from number `at` on. The first is of record number `first`, each next
 // one of a record a stride behind. An entry is three numbers of a slice that the caller lends.
-#[derive(Drop)]
+#[derive(Clone, Copy)]
 pub struct Run {
     pub at: usize,
     pub entries: usize,
@@ -138,21 +140,21 @@ pub struct Run {
 
 // An index of a checked sheet: coarse entries, as evenly spread over all records as there is room, and behind them fine ones, of each
 // record about one of them. Cells that are asked for one after the other are mostly near each other, and a fine entry spares the walk.
-#[derive(Drop)]
+#[derive(Clone, Copy)]
 pub struct Spread {
     pub coarse: Run,
     pub fine: Run,
 }
 
 // An entry: where its record begins, and how far its leaf is from the front of the line.
-#[derive(Drop)]
+#[derive(Clone, Copy)]
 pub struct Entry {
     pub offset: usize,
     pub place: Ahead,
 }
 
 // How a cell is among the leaves: it is the leaf of the record, it lies in that leaf, or that leaf is the first of those inside it.
-#[derive(Drop)]
+#[derive(Clone, Copy)]
 pub enum Kind {
     Leaf,
     Inside,
@@ -160,7 +162,7 @@ pub enum Kind {
 }
 
 // What is found of a cell: which of the three it is, and the record's number, where it begins and how deep its leaf is.
-#[derive(Drop)]
+#[derive(Clone, Copy)]
 pub struct Found {
     pub kind: Kind,
     pub number: usize,

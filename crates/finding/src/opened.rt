@@ -4,7 +4,7 @@ ghost use Rattle.finding.specs.Opened.{OpenedIs};
 use bisection::DONE;
 
 // Its refusal and offset, or the dimension of a good sheet and how many records it has.
-#[derive(Drop)]
+#[derive(Clone, Copy)]
 pub struct Opened {
     pub refusal: u8,
     pub offset: usize,

@@ -1,5 +1,5 @@
 -- The laws of entries by value: one for each function, and what a turn does to a signed permutation that they hold.
-use Rattle.std.specs.Prelude.{◌≡◌, true, false, cond, T, ltb, eqb, length, get_or, drop}
+use Rattle.std.specs.Prelude.{◌≡◌, false, cond, T, ltb, eqb, length, get_or, drop}
 use Rattle.std.proofs.Math.Path.{refl, sym, ap}
 use Rattle.std.proofs.Common.{◌∙◌, subst, arith, zero-add, length-append, length-drop, take-append-drop, take_at, drop-drop, get_or-drop, get_or-take, get_or-append-add, length-take-le, eq-eqb, ne_eqb, eqb-true, lt-ltb, le-ltb}
 use mathlib.Core.List.{List, [], ◌∷◌, ◌++◌, append_assoc}

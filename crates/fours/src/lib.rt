@@ -1,5 +1,7 @@
 // Entries by value: four named entries. A dimension with fewer axes leaves the last ones 0. Nothing here branches on a place
 // or on an entry: which step comes is not foreseen, and a branch on it costs more than both sides.
+#![tactic(auto)]
+
 pub mod words; // words.rt: entries as one word
 
 ghost use Rattle.std.specs.Prelude.{◌≡◌, cond, suc, ◌+◌, ◌≤◌, ◌<◌, ltb, length, get_or, drop};
@@ -10,7 +12,7 @@ ghost use Rattle.fours.specs.Fours.{four, no_entries, part_of, SameFour, OwnIs};
 
 use entries::check;
 
-#[derive(Drop)]
+#[derive(Clone, Copy)]
 pub struct Four {
     pub first: u8,
     pub second: u8,

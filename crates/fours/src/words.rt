@@ -70,7 +70,7 @@ fn pick_word(b: bool, x: u32, y: u32) -> u32
 }
 
 // The entries one step up, and the step.
-#[derive(Drop)]
+#[derive(Clone, Copy)]
 pub struct Back {
     pub before: u32,
     pub step: u8,

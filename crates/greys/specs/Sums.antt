@@ -1,5 +1,5 @@
 -- Weighted sums of samples: weights in a ratio, and the first weights of a list.
-use Rattle.std.specs.Prelude.{◌≡◌, refl, List, ℕ, zero, suc, ◌+◌, ◌*◌, ◌^◌, ◌≤◌, ◌<◌, length, get_or, take, Float}
+use Rattle.std.specs.Prelude.{◌≡◌, refl, List, ℕ, zero, suc, ◌+◌, ◌*◌, ◌≤◌, ◌<◌, length, get_or, take, Float}
 use Rattle.std.proofs.Common.{ap, ◌∙◌, arith, add-zero, add-suc, pow_mono, length-take-le, get_or-take}
 use Rattle.dimension.specs.Sizes.{halvings, cube_side}
 use Rattle.dimension.specs.Laws.{halvings_few}

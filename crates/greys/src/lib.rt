@@ -1,5 +1,7 @@
 // Grey values: the weighted sum of a record's samples, its quotient by the cube's side as an f64 that loses nothing, the same of a
 // difference of two sums, and the answer that carries a value or a refusal.
+#![tactic(auto)]
+
 ghost use Rattle.std.specs.Prelude.{◌≡◌, suc, ◌*◌, ◌^◌, ◌≤◌, ◌<◌, length, take};
 ghost use Rattle.std.proofs.Math.IntN.{sub_ℕ};
 ghost use Rattle.dimension.specs.Sizes.{axes_of, cube_side};
@@ -11,7 +13,7 @@ use bisection::DONE;
 use dimension::Dim;
 
 // The answer of a value query: the grey value, or a refusal and its offset.
-#[derive(Drop)]
+#[derive(Clone, Copy)]
 pub enum Value {
     Grey(f64),
     Refused { number: u8, offset: usize },
@@ -19,7 +21,7 @@ pub enum Value {
 
 // The same for a C program.
 #[repr(C)]
-#[derive(Drop)]
+#[derive(Clone, Copy)]
 pub struct ValueAnswer {
     pub refusal: u8,
     pub offset: usize,

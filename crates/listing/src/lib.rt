@@ -1,4 +1,6 @@
 // The listing of a sheet as text. A pure function on slices: the program sheet_list reads, calls it, and writes.
+#![tactic(auto)]
+
 mod text; // text.rt: bytes, numbers and hex put into a lent buffer
 
 ghost use Rattle.std.specs.Prelude.{◌≡◌, ◌+◌, ◌*◌, ◌≤◌, ◌<◌, length, take};

@@ -1,5 +1,7 @@
 // The moves of a crossing: the entries rearranged by value where it stays in its box, the orthants changed by carry where it leaves
 // the box for the one beside it.
+#![tactic(auto)]
+
 pub mod carries; // carries.rt: where the carry ends, and its flips
 
 ghost use Rattle.std.specs.Prelude.{◌≡◌, cond, ◌+◌, ◌*◌, ◌≤◌, ◌<◌};
@@ -10,7 +12,7 @@ use entries::{check, words};
 use fours::Four;
 
 // The entries of the cell across, and the place of its new vertex.
-#[derive(Drop)]
+#[derive(Clone, Copy)]
 pub struct Moved {
     pub entries: Four,
     pub place: u8,

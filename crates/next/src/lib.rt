@@ -1,6 +1,7 @@
 // The next cell, kept as a code. After a leaf the next one is known before it is read: its bytes are those of the next cell, or
 // of the first one inside it at some depth. It belongs to the code layer: what stands above it sees neither a path nor a byte of
 // a code. A first cell inside has the same entries, and the front of the same orthants: so these are kept for all depths.
+#![tactic(auto)]
 
 ghost use Rattle.std.specs.Prelude.{◌≡◌, ◌++◌, ◌+◌, ◌-◌, ◌%◌, ◌≤◌, ◌<◌, length, take, drop, replicate};
 ghost use Rattle.dimension.specs.Sizes.{axes_of, halvings, box_depth};
@@ -19,7 +20,7 @@ const ONES: u64 = 0x1111_1111_1111;
 // The cell of a root and a path: its entries; the orthants of the first cell of greatest depth inside it, as digits base 16, the
 // first one lowest; its depth; and its path as a number, the first step highest. The entries have no struct of their own here: one
 // that is carried from leaf to leaf would be packed into a word and unpacked each time.
-#[derive(Drop)]
+#[derive(Clone, Copy)]
 pub struct Next {
     pub first: u8,
     pub second: u8,
@@ -32,7 +33,7 @@ pub struct Next {
 
 // The code of the next cell, or of the first one inside it: its length, 0 where bytes do not begin with one, its depth, and how
 // many boxes it has.
-#[derive(Drop)]
+#[derive(Clone, Copy)]
 pub struct Match {
     pub length: usize,
     pub depth: usize,
@@ -151,7 +152,7 @@ pub fn matches(next: Next, dim: Dim, bytes: &[u8]) -> Match
 }
 
 // A cell on the way up: its entries, its path as a number and its depth; its split place, and how many boxes it has.
-#[derive(Drop)]
+#[derive(Clone, Copy)]
 struct Up {
     entries: Four,
     path: u64,
@@ -216,7 +217,7 @@ fn filled(boxes: u64, from: usize, own: u8) -> u64
 }
 
 // The cell after a leaf, where the root has one more.
-#[derive(Drop)]
+#[derive(Clone, Copy)]
 pub struct Onward {
     pub more: bool,
     pub next: Next,

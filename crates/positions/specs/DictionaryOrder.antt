@@ -7,7 +7,7 @@ use Rattle.std.proofs.Math.Decide.{dec_le, dec_lt}
 use Rattle.dimension.specs.Sizes.{root_count}
 use Rattle.bisection.specs.Roots.{Earlier, smaller, same_step, axes_from, roots}
 use Rattle.positions.specs.Arrangements.{Picked, here, there, place, picked_length, Arranged, none, next, arranged_length, rank, rank_under}
-use Rattle.positions.specs.Rising.{Rising, goes_on, picked_over, picked_rising, rank_is}
+use Rattle.positions.specs.Rising.{Rising, ends, goes_on, picked_over, picked_rising, rank_is}
 use Rattle.positions.specs.RootNumbers.{number_is, axes_rise, permutation_arranged, roots_length, roots_permutation, roots_number}
 
 -- of two picks from a list that rises, the one at the earlier place is the smaller
@@ -17,6 +17,7 @@ place_rises (goes_on l r) here here h = absurd (omega arith)
 place_rises (goes_on l r) here (there q) h = picked_over r q
 place_rises (goes_on l r) (there p) here h = absurd (omega arith)
 place_rises (goes_on l r) (there p) (there q) h = place_rises r p q (omega arith)
+place_rises ends p q h = elim p [ ]
 
 -- two picks at one place are the same
 place_one : {x y : ℕ} {xs rest rest' : List ℕ} (p : Picked x xs rest) (q : Picked y xs rest') → place p ≡ place q → (x ≡ y) × (rest ≡ rest')
@@ -41,6 +42,8 @@ rest_first p q m r s h e = omega (arith, ap (λ (k : ℕ). k * m) e)
 rank_rises : {a : ℕ} {xs ws vs : List ℕ} → Rising a xs → (r : Arranged xs ws) (s : Arranged xs vs) → rank r < rank s → Earlier ws vs
 unfolding rank
 rank_rises u none none h = absurd (omega arith)
+rank_rises u none (next q s) h = elim q [ ]
+rank_rises u (next p r) none h = elim p [ ]
 rank_rises u (next {x} {xs} {rest} {ws} p r) (next {x = y} {ws = vs} q s) h = go (dec_lt (place p) (place q)) (λ t. rank_rises (picked_rising u p) r t)
   where
     m : ℕ

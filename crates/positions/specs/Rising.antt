@@ -17,16 +17,19 @@ rising_from h (goes_on l r) = goes_on (le_trans h l) r
 pub picked_over : {a x : ℕ} {xs rest : List ℕ} → Rising a xs → Picked x xs rest → a ≤ x
 picked_over (goes_on l r) here = l
 picked_over (goes_on l r) (there p) = omega (arith, picked_over r p)
+picked_over ends p = elim p [ ]
 
 pub picked_rising : {a x : ℕ} {xs rest : List ℕ} → Rising a xs → Picked x xs rest → Rising a rest
 picked_rising (goes_on l r) here = rising_from (omega arith) r
 picked_rising (goes_on l r) (there p) = goes_on l (picked_rising r p)
+picked_rising ends p = elim p [ ]
 
 -- what was picked is not there again
 gone : {a x : ℕ} {xs rest after : List ℕ} → Rising a xs → Picked x xs rest → Picked x rest after → ⊥
 gone (goes_on l r) here q = omega (arith, picked_over r q)
 gone (goes_on l r) (there p) here = omega (arith, picked_over r p)
 gone (goes_on l r) (there p) (there q) = gone r p q
+gone ends p q = elim p [ ]
 
 -- how many elements of a list are smaller than v
 unfoldable pub under : ℕ → List ℕ → ℕ
@@ -58,6 +61,7 @@ place_counts : {a x : ℕ} {xs rest : List ℕ} → Rising a xs → (p : Picked 
 unfolding under place
 place_counts {x = x} (goes_on l r) here = none_under r x (omega arith)
 place_counts {x = x} (goes_on {x = y} l r) (there p) = rw (lt-ltb y x (picked_over r p), place_counts r p) (omega arith)
+place_counts ends p = elim p [ ]
 
 pub rank_is : {a : ℕ} {xs ws : List ℕ} → Rising a xs → (r : Arranged xs ws) → rank r ≡ number_of ws
 unfolding rank number_of

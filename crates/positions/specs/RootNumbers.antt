@@ -140,6 +140,7 @@ axes_under : (a n v : ℕ) {rest : List ℕ} → Picked v (axes_from a n) rest �
 unfolding axes_from
 axes_under a (suc n) v here = omega arith
 axes_under a (suc n) v (there p) = omega (arith, axes_under (suc a) n v p)
+axes_under a zero v p = elim p [ ]
 
 -- the permutations of d axes are their arrangements
 pub permutation_arranged : (root : List ℕ) → Permutation root → Arranged (axes_from 1 (length root)) root

@@ -1,5 +1,7 @@
 // Cells on the line: where the cell of a code that passes stands. It belongs to the code layer: what stands above it
 // knows a cell by its position alone.
+#![tactic(auto)]
+
 pub mod roots; // roots.rt: the roots in dictionary order
 
 ghost use Rattle.std.specs.Prelude.{◌≡◌, ◌+◌, ◌-◌, ◌*◌, ◌^◌, ◌≤◌, ◌<◌, length};
@@ -14,7 +16,7 @@ use dimension::Dim;
 use fours::words;
 
 // The number of a cell's root in dictionary order, and its part of the root's stretch.
-#[derive(Drop)]
+#[derive(Clone, Copy)]
 pub struct Position {
     pub root: usize,
     pub start: u64,
@@ -66,7 +68,7 @@ fn number(root: &[u8], d: usize) -> usize
 }
 
 // Where the way up from a code ends: its root's entries as a word, and where the cell starts on the root's stretch.
-#[derive(Drop)]
+#[derive(Clone, Copy)]
 struct Origin {
     root: u32,
     start: u64,

@@ -1,5 +1,7 @@
 // Point queries: the leaf at a point and its weights, and the exact grey value and slope there. The whole sheet is checked first. No leaf is
 // tested: the way down to the point gives a place on the line of all cells, and the leaf there is the one that the document asks for.
+#![tactic(auto)]
+
 ghost use Rattle.std.specs.Prelude.{◌≡◌, [], ◌∷◌, ◌+◌, ◌*◌, ◌/◌, ◌%◌, ◌^◌, ◌≤◌, ◌<◌, length};
 ghost use Rattle.common.specs.Putting.{put, Puts};
 ghost use Rattle.dimension.specs.Sizes.{axes_of};
@@ -23,7 +25,7 @@ use slopes::{Slope, Slopes};
 
 // The answer of a leaf query: the record's number, and how many bytes of weights stand at the buffer's front.
 #[repr(C)]
-#[derive(Drop)]
+#[derive(Clone, Copy)]
 pub struct LeafAnswer {
     pub refusal: u8,
     pub offset: usize,
@@ -33,7 +35,7 @@ pub struct LeafAnswer {
 
 // The record of the leaf at a point: its number, where it begins, how deep its leaf is, and the point's weights in the leaf's root, of
 // the cube's side as their sum.
-#[derive(Drop)]
+#[derive(Clone, Copy)]
 pub struct Standing {
     pub number: usize,
     pub offset: usize,
@@ -43,7 +45,7 @@ pub struct Standing {
 
 // The record that a query is answered from: its number, how deep its leaf is, where its samples stand, and the point's weights in
 // that leaf, of the cube's side as their sum.
-#[derive(Drop)]
+#[derive(Clone, Copy)]
 pub struct Chosen {
     pub number: usize,
     pub depth: usize,

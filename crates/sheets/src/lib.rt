@@ -1,6 +1,8 @@
 // The sheet layer: records, and the check of a whole sheet. It knows a code by what the code layer says of it: its head, its body,
 // and whether it is that of the next leaf. After a leaf the next one is known, so a good record is recognised by comparing its
 // code with that of the next cell; only where they differ do the record's own tests run, to name the refusal.
+#![tactic(auto)]
+
 ghost use Rattle.std.specs.Prelude.{◌≡◌, suc, ◌*◌, ◌≤◌, length};
 ghost use Rattle.bisection.specs.Refusals.{done};
 ghost use Rattle.sheets.specs.Sheets.{is_marked, unmarked_refusal, record_refusal, SheetIs};
@@ -18,7 +20,7 @@ pub const REFUSED_LEAF: u8 = 14;
 pub const MARK_LENGTH: usize = 2;
 
 // An edition of sheets: the two mark bytes before each code, and how many bytes a sample has.
-#[derive(Drop)]
+#[derive(Clone, Copy)]
 pub struct Edition {
     pub first: u8,
     pub second: u8,
@@ -38,7 +40,7 @@ pub fn first_edition() -> Edition
 
 // The answer of the sheet check: where a refused record begins, or the number of records.
 #[repr(C)]
-#[derive(Drop)]
+#[derive(Clone, Copy)]
 pub struct SheetAnswer {
     pub refusal: u8,
     pub offset: usize,
@@ -47,7 +49,7 @@ pub struct SheetAnswer {
 
 // What has been read: how far, how many records, and the next cell with its root's number. Dimension 0: no record has named one,
 // and there is no next cell. The running position on the line is the root's number and the next cell's path, in parts of its size.
-#[derive(Drop)]
+#[derive(Clone, Copy)]
 struct State {
     offset: usize,
     records: usize,
@@ -57,7 +59,7 @@ struct State {
 }
 
 // A record's dimension, and how many bytes its code has, and the whole record.
-#[derive(Drop)]
+#[derive(Clone, Copy)]
 pub struct RecordParts {
     pub dimension: u8,
     pub code: usize,

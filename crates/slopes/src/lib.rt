@@ -1,5 +1,7 @@
 // The slope of the grey field in a cell: that of the only linear function through the samples at its vertices. Along an entry it is a
 // difference of samples over the box's side, and the entry's axis and sign say where it goes.
+#![tactic(auto)]
+
 ghost use Rattle.std.specs.Prelude.{◌≡◌, ◌-◌, ◌^◌, ◌≤◌, ◌<◌};
 ghost use Rattle.bisection.specs.Codes.{axis, minus};
 ghost use Rattle.bisection.proofs.Theorems.Slopes.One.{by_sign};
@@ -13,7 +15,7 @@ use entries::{check, words};
 
 // The slope on each axis; +0.0 on an axis that the dimension has not.
 #[repr(C)]
-#[derive(Drop)]
+#[derive(Clone, Copy)]
 pub struct Slopes {
     pub first: f64,
     pub second: f64,
@@ -22,7 +24,7 @@ pub struct Slopes {
 }
 
 // The answer of a slope query: the slopes, or a refusal and its offset.
-#[derive(Drop)]
+#[derive(Clone, Copy)]
 pub enum Slope {
     Along(Slopes),
     Refused { number: u8, offset: usize },
@@ -30,7 +32,7 @@ pub enum Slope {
 
 // The same for a C program.
 #[repr(C)]
-#[derive(Drop)]
+#[derive(Clone, Copy)]
 pub struct SlopeAnswer {
     pub refusal: u8,
     pub offset: usize,

@@ -1,4 +1,6 @@
 // One step of the bisection on a code, entries from place 2 on, written to a lent buffer; and one step back.
+#![tactic(auto)]
+
 pub mod buffers; // buffers.rt: bytes in a lent buffer
 pub mod walks; // walks.rt: a whole path down, a whole path up
 

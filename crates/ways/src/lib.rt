@@ -1,5 +1,7 @@
 // The way down to a point: the first root that contains it, then child 0 where that contains it and child 1 otherwise. The
 // point's weights tell which: they are kept with the cube's side as their sum, so that no step divides.
+#![tactic(auto)]
+
 ghost use Rattle.std.specs.Prelude.{◌≡◌, true, [], ◌*◌, ◌≤◌, ◌<◌, length, get_or};
 ghost use Rattle.dimension.specs.Sizes.{axes_of, cube_side, greatest_depth};
 ghost use Rattle.bisection.specs.Cells.{coordinate, cell_of};
@@ -16,21 +18,21 @@ use dimension::Dim;
 use positions::roots;
 
 // A step: to child 0 or to child 1, and the weights there.
-#[derive(Drop)]
+#[derive(Clone, Copy)]
 pub struct Stepped {
     pub step: u64,
     pub weights: [u64; 5],
 }
 
 // A place on the way: its position, and the point's weights in its cell.
-#[derive(Drop)]
+#[derive(Clone, Copy)]
 pub struct Place {
     pub position: u64,
     pub weights: [u64; 5],
 }
 
 // Where a point is: the number of its first root, its weights there, and the position of the deepest cell on the way.
-#[derive(Drop)]
+#[derive(Clone, Copy)]
 pub struct Located {
     pub root: usize,
     pub weights: [u64; 5],

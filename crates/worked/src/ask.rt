@@ -4,169 +4,170 @@ use bisection::DONE;
 use dimension::Dim;
 use greys::Value;
 use slopes::Slope;
+use std::io::Stdout;
 
 // The check of a code.
-pub fn checked(case: &[u8], code: &[u8]) {
-    say::text(case);
-    say::text(b": code ");
-    say::hex(code, 2);
-    say::text(b": ");
+pub fn checked(to: Stdout, case: &[u8], code: &[u8]) {
+    say::text(to, case);
+    say::text(to, b": code ");
+    say::hex(to, code, 2);
+    say::text(to, b": ");
     let refusal = codes::code_check(code);
     if refusal != DONE {
-        return say::refused(refusal);
+        return say::refused(to, refusal);
     }
-    say::text(b"good\n");
+    say::text(to, b"good\n");
 }
 
-fn path_answer(root: &[u8], path: &[u8]) {
+fn path_answer(to: Stdout, root: &[u8], path: &[u8]) {
     let mut code = [0u8; Dim::LONGEST_CODE];
     let answer = codes::path_to_code(root, path, &mut code);
     if answer.refusal != DONE {
-        return say::refused(answer.refusal);
+        return say::refused(to, answer.refusal);
     }
-    say::line(&code[..answer.length]);
+    say::line(to, &code[..answer.length]);
 }
 
 // The code of a root and a path.
-pub fn coded(case: &[u8], root: &[u8], path: &[u8]) {
-    say::text(case);
-    say::text(b": root ");
-    say::hex(root, 1);
-    say::text(b" path ");
-    say::hex(path, 1);
-    say::text(b": ");
-    path_answer(root, path);
+pub fn coded(to: Stdout, case: &[u8], root: &[u8], path: &[u8]) {
+    say::text(to, case);
+    say::text(to, b": root ");
+    say::hex(to, root, 1);
+    say::text(to, b" path ");
+    say::hex(to, path, 1);
+    say::text(to, b": ");
+    path_answer(to, root, path);
 }
 
-fn child_answer(code: &[u8], which: u8) {
+fn child_answer(to: Stdout, code: &[u8], which: u8) {
     let mut out = [0u8; Dim::LONGEST_CODE];
     let answer = codes::child(code, which, &mut out);
     if answer.refusal != DONE {
-        return say::refused(answer.refusal);
+        return say::refused(to, answer.refusal);
     }
-    say::line(&out[..answer.length]);
+    say::line(to, &out[..answer.length]);
 }
 
 // A child.
-pub fn child(case: &[u8], code: &[u8], which: u8) {
-    say::text(case);
-    say::text(b": child ");
-    say::number(common::size(which));
-    say::text(b" of ");
-    say::hex(code, 2);
-    say::text(b": ");
-    child_answer(code, which);
+pub fn child(to: Stdout, case: &[u8], code: &[u8], which: u8) {
+    say::text(to, case);
+    say::text(to, b": child ");
+    say::number(to, common::size(which));
+    say::text(to, b" of ");
+    say::hex(to, code, 2);
+    say::text(to, b": ");
+    child_answer(to, code, which);
 }
 
-fn cross_answer(code: &[u8], facet: u8) {
+fn cross_answer(to: Stdout, code: &[u8], facet: u8) {
     let mut out = [0u8; Dim::LONGEST_CODE];
     let answer = crossing::cross(code, facet, &mut out);
     if answer.refusal != DONE {
-        return say::refused(answer.refusal);
+        return say::refused(to, answer.refusal);
     }
     let new = answer.vertex;
-    say::text(b"place ");
-    say::number(common::size(answer.place));
-    say::text(b", vertex ");
-    say::four(new.first, new.second, new.third, new.fourth);
-    say::text(b", of ");
-    say::line(&out[..answer.length]);
+    say::text(to, b"place ");
+    say::number(to, common::size(answer.place));
+    say::text(to, b", vertex ");
+    say::four(to, new.first, new.second, new.third, new.fourth);
+    say::text(to, b", of ");
+    say::line(to, &out[..answer.length]);
 }
 
 // Crossing a facet.
-pub fn crossed(case: &[u8], code: &[u8], facet: u8) {
-    say::text(case);
-    say::text(b": ");
-    say::hex(code, 2);
-    say::text(b" across ");
-    say::number(common::size(facet));
-    say::text(b": ");
-    cross_answer(code, facet);
+pub fn crossed(to: Stdout, case: &[u8], code: &[u8], facet: u8) {
+    say::text(to, case);
+    say::text(to, b": ");
+    say::hex(to, code, 2);
+    say::text(to, b" across ");
+    say::number(to, common::size(facet));
+    say::text(to, b": ");
+    cross_answer(to, code, facet);
 }
 
 // The check of a sheet.
-pub fn sheet(case: &[u8], bytes: &[u8]) {
-    say::text(case);
-    say::text(b": ");
+pub fn sheet(to: Stdout, case: &[u8], bytes: &[u8]) {
+    say::text(to, case);
+    say::text(to, b": ");
     let answer = sheets::sheet_check(bytes);
     if answer.refusal != DONE {
-        return say::refused_at(answer.refusal, answer.offset);
+        return say::refused_at(to, answer.refusal, answer.offset);
     }
-    say::text(b"records ");
-    say::number(answer.records);
-    say::text(b"\n");
+    say::text(to, b"records ");
+    say::number(to, answer.records);
+    say::text(to, b"\n");
 }
 
 // The leaf at a point, in dimension 2, and its weights.
-pub fn leaf(sheet: &[u8], point: &[u8]) {
-    say::text(b"leaf at");
-    say::pairs(point);
-    say::text(b": ");
+pub fn leaf(to: Stdout, sheet: &[u8], point: &[u8]) {
+    say::text(to, b"leaf at");
+    say::pairs(to, point);
+    say::text(to, b": ");
     let mut weights = [0u8; 6];
     let answer = queries::leaf_at(sheet, point, &mut weights);
     if answer.refusal != DONE {
-        return say::refused(answer.refusal);
+        return say::refused(to, answer.refusal);
     }
-    say::text(b"record ");
-    say::number(answer.number);
-    say::text(b" weights");
-    say::pairs(&weights);
-    say::text(b"\n");
+    say::text(to, b"record ");
+    say::number(to, answer.number);
+    say::text(to, b" weights");
+    say::pairs(to, &weights);
+    say::text(to, b"\n");
 }
 
 // The grey value there: the number that is named, or another.
-pub fn value(sheet: &[u8], point: &[u8], named: u8) {
-    say::text(b"value at");
-    say::pairs(point);
-    say::text(b": ");
+pub fn value(to: Stdout, sheet: &[u8], point: &[u8], named: u8) {
+    say::text(to, b"value at");
+    say::pairs(to, point);
+    say::text(to, b": ");
     match queries::value_at(sheet, point) {
-        Value::Refused { number, offset: _ } => say::refused(number),
+        Value::Refused { number, offset: _ } => say::refused(to, number),
         Value::Grey(x) => {
             if x == named as f64 {
-                say::number(common::size(named));
-                return say::text(b"\n");
+                say::number(to, common::size(named));
+                return say::text(to, b"\n");
             }
-            say::text(b"another\n");
+            say::text(to, b"another\n");
         }
     }
 }
 
-fn slope_answer(sheet: &[u8], point: &[u8]) {
+fn slope_answer(to: Stdout, sheet: &[u8], point: &[u8]) {
     match queries::slope_at(sheet, point) {
-        Slope::Refused { number, offset: _ } => say::refused(number),
-        Slope::Along(on) => say::slopes(on),
+        Slope::Refused { number, offset: _ } => say::refused(to, number),
+        Slope::Along(on) => say::slopes(to, on),
     }
 }
 
 // The slope there, on each axis.
-pub fn slope(case: &[u8], sheet: &[u8], point: &[u8]) {
-    say::text(case);
-    say::text(b": slope at");
-    say::pairs(point);
-    say::text(b": ");
-    slope_answer(sheet, point);
+pub fn slope(to: Stdout, case: &[u8], sheet: &[u8], point: &[u8]) {
+    say::text(to, case);
+    say::text(to, b": slope at");
+    say::pairs(to, point);
+    say::text(to, b": ");
+    slope_answer(to, sheet, point);
 }
 
 // Whether a sheet is compatible.
-pub fn compatible(case: &[u8], bytes: &[u8]) {
-    say::text(case);
-    say::text(b": ");
+pub fn compatible(to: Stdout, case: &[u8], bytes: &[u8]) {
+    say::text(to, case);
+    say::text(to, b": ");
     let answer = compatible::compatible(bytes);
     if answer.refusal != DONE {
-        return say::refused_at(answer.refusal, answer.offset);
+        return say::refused_at(to, answer.refusal, answer.offset);
     }
     if answer.compatible == 0 {
-        return say::text(b"no\n");
+        return say::text(to, b"no\n");
     }
-    say::text(b"yes\n");
+    say::text(to, b"yes\n");
 }
 
 // What the listing program writes.
-pub fn listed(bytes: &[u8]) {
-    say::text(b"listing of ");
-    say::number(bytes.len());
-    say::text(b" bytes:\n");
+pub fn listed(to: Stdout, bytes: &[u8]) {
+    say::text(to, b"listing of ");
+    say::number(to, bytes.len());
+    say::text(to, b" bytes:\n");
     let mut text = [0u8; listing::TEXT_ROOM];
     let length = listing::list_sheet(bytes, &mut text);
-    say::text(&text[..length]);
+    say::text(to, &text[..length]);
 }

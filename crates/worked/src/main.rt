@@ -1,8 +1,12 @@
 // The worked cases of document 01 that stand outside its proved set, some for each slip that it names, and slopes in leaves of every
 // level: a line for each, which says the case and what the entry answers.
+#![tactic(auto)]
+
 mod ask; // ask.rt: each entry, what it is asked and what it answers
 mod linear; // linear.rt: sheets with the samples of one linear function
 mod say; // say.rt: what the program writes, part by part
+
+use std::io::Stdout;
 
 // The sheet of "The listing program": both roots of dimension 2.
 const SHEET: [u8; 24] = *b"CL\x02\0\x01\x02\x0A\0\x14\0\x32\0CL\x02\0\x02\x01\x0A\0\x1E\0\x32\0";
@@ -17,115 +21,157 @@ const STEPS: [u8; 25] =
     *b"\0\x01\0\x01\0\x01\0\x01\0\x01\0\x01\0\x01\0\x01\0\x01\0\x01\0\x01\0\x01\0";
 
 // "An empty sheet: refusal 14 at 0", the sheets of "The listing program", and one that is not compatible.
-fn whole_sheets() {
-    ask::sheet(b"empty sheet", b"");
-    ask::sheet(b"sheet of 24 bytes", &SHEET);
-    ask::sheet(b"its first 12 bytes", &SHEET[..12]);
-    ask::compatible(b"compatible, of 24 bytes", &SHEET);
-    ask::compatible(b"compatible, of its first 12 bytes", &SHEET[..12]);
-    ask::compatible(b"compatible, of another sheet", &CORNER);
+fn whole_sheets(to: Stdout) {
+    ask::sheet(to, b"empty sheet", b"");
+    ask::sheet(to, b"sheet of 24 bytes", &SHEET);
+    ask::sheet(to, b"its first 12 bytes", &SHEET[..12]);
+    ask::compatible(to, b"compatible, of 24 bytes", &SHEET);
+    ask::compatible(to, b"compatible, of its first 12 bytes", &SHEET[..12]);
+    ask::compatible(to, b"compatible, of another sheet", &CORNER);
 }
 
 // "Dimension 2 at depth 24 is good, 25 is refusal 2; child of depth 24 is refusal 10."
-fn depths() {
-    ask::checked(b"depth 24", b"\x02\x18\x01\x02\0\0\0\0\0\0\0\0\0\0\0\0");
-    ask::checked(b"depth 25", b"\x02\x19\x01\x02\0\0\0\0\0\0\0\0\0\0\0\0");
-    ask::coded(b"depth 24", b"\x01\x02", &STEPS[..24]);
-    ask::coded(b"depth 25", b"\x01\x02", &STEPS);
-    ask::child(b"depth 23", b"\x02\x17\x01\x02\0\0\0\0\0\0\0\0\0\0\0", 1);
-    ask::child(b"depth 24", b"\x02\x18\x01\x02\0\0\0\0\0\0\0\0\0\0\0\0", 0);
-    ask::child(b"depth 24", b"\x02\x18\x01\x02\0\0\0\0\0\0\0\0\0\0\0\0", 1);
+fn depths(to: Stdout) {
+    ask::checked(to, b"depth 24", b"\x02\x18\x01\x02\0\0\0\0\0\0\0\0\0\0\0\0");
+    ask::checked(to, b"depth 25", b"\x02\x19\x01\x02\0\0\0\0\0\0\0\0\0\0\0\0");
+    ask::coded(to, b"depth 24", b"\x01\x02", &STEPS[..24]);
+    ask::coded(to, b"depth 25", b"\x01\x02", &STEPS);
+    ask::child(
+        to,
+        b"depth 23",
+        b"\x02\x17\x01\x02\0\0\0\0\0\0\0\0\0\0\0",
+        1,
+    );
+    ask::child(
+        to,
+        b"depth 24",
+        b"\x02\x18\x01\x02\0\0\0\0\0\0\0\0\0\0\0\0",
+        0,
+    );
+    ask::child(
+        to,
+        b"depth 24",
+        b"\x02\x18\x01\x02\0\0\0\0\0\0\0\0\0\0\0\0",
+        1,
+    );
 }
 
 // "Coordinate 4096 is good, 4097 is refusal 12."
-fn coordinates() {
-    ask::leaf(&SHEET, &[0x00, 0x10, 0x00, 0x10]);
-    ask::leaf(&SHEET, &[0x01, 0x10, 0x00, 0x10]);
-    ask::leaf(&SHEET, &[0x00, 0x10, 0x01, 0x10]);
-    ask::value(&SHEET, &[0x00, 0x10, 0x00, 0x10], 50);
-    ask::value(&SHEET, &[0x01, 0x10, 0x00, 0x10], 50);
-    ask::value(&SHEET, &[0x00, 0x10, 0x01, 0x10], 50);
+fn coordinates(to: Stdout) {
+    ask::leaf(to, &SHEET, &[0x00, 0x10, 0x00, 0x10]);
+    ask::leaf(to, &SHEET, &[0x01, 0x10, 0x00, 0x10]);
+    ask::leaf(to, &SHEET, &[0x00, 0x10, 0x01, 0x10]);
+    ask::value(to, &SHEET, &[0x00, 0x10, 0x00, 0x10], 50);
+    ask::value(to, &SHEET, &[0x01, 0x10, 0x00, 0x10], 50);
+    ask::value(to, &SHEET, &[0x00, 0x10, 0x01, 0x10], 50);
 }
 
 // Request No. 1: "the two-root sheet of document 01 at (1024,512) has slopes 10/4096 and 30/4096". In the other root both are 20/4096.
 // Coordinate 4097 is refused.
-fn slopes_in_roots(sheet: &[u8]) {
-    ask::slope(b"sheet of 24 bytes", sheet, b"\0\x04\0\x02");
-    ask::slope(b"sheet of 24 bytes", sheet, b"\0\x02\0\x04");
-    ask::slope(b"sheet of 24 bytes", sheet, b"\x01\x10\0\x02");
+fn slopes_in_roots(to: Stdout, sheet: &[u8]) {
+    ask::slope(to, b"sheet of 24 bytes", sheet, b"\0\x04\0\x02");
+    ask::slope(to, b"sheet of 24 bytes", sheet, b"\0\x02\0\x04");
+    ask::slope(to, b"sheet of 24 bytes", sheet, b"\x01\x10\0\x02");
 }
 
 // At depth 2, where the box's side is 2048: 30/2048 and 20/2048, then -20/2048 and 20/2048. At depth 1 the second entry is past the
 // split place: -50/4096 and 30/4096.
-fn slopes_in_corner(sheet: &[u8]) {
-    ask::slope(b"dimension 2, depth 2", sheet, b"\0\x04\0\x02");
-    ask::slope(b"dimension 2, depth 2", sheet, b"\0\x0C\0\x02");
-    ask::slope(b"dimension 2, depth 1", sheet, b"\0\x0E\0\x08");
+fn slopes_in_corner(to: Stdout, sheet: &[u8]) {
+    ask::slope(to, b"dimension 2, depth 2", sheet, b"\0\x04\0\x02");
+    ask::slope(to, b"dimension 2, depth 2", sheet, b"\0\x0C\0\x02");
+    ask::slope(to, b"dimension 2, depth 1", sheet, b"\0\x0E\0\x08");
 }
 
 // Leaves of every level, all with -300/4096, 200/4096 and 52/4096.
-fn slopes_in_three(sheet: &[u8]) {
-    ask::slope(b"dimension 3, depth 1", sheet, b"\0\x0A\0\x06\0\x02");
-    ask::slope(b"dimension 3, depth 2", sheet, b"\0\x0E\0\x08\0\x04");
-    ask::slope(b"dimension 3, depth 2", sheet, b"\0\x0E\0\x0C\0\x08");
-    ask::slope(b"dimension 3, depth 0", sheet, b"\0\x04\0\x08\0\x0C");
+fn slopes_in_three(to: Stdout, sheet: &[u8]) {
+    ask::slope(to, b"dimension 3, depth 1", sheet, b"\0\x0A\0\x06\0\x02");
+    ask::slope(to, b"dimension 3, depth 2", sheet, b"\0\x0E\0\x08\0\x04");
+    ask::slope(to, b"dimension 3, depth 2", sheet, b"\0\x0E\0\x0C\0\x08");
+    ask::slope(to, b"dimension 3, depth 0", sheet, b"\0\x04\0\x08\0\x0C");
 }
 
 // The same with -300/4096, 200/4096, +0.0 and -64/4096.
-fn slopes_in_four(sheet: &[u8]) {
-    ask::slope(b"dimension 4, depth 1", sheet, b"\0\x07\0\x05\0\x03\0\x01");
-    ask::slope(b"dimension 4, depth 2", sheet, b"\0\x0F\0\x06\0\x04\0\x02");
-    ask::slope(b"dimension 4, depth 3", sheet, b"\0\x0F\0\x0E\0\x05\0\x03");
-    ask::slope(b"dimension 4, depth 3", sheet, b"\0\x0F\0\x0E\0\x0D\0\x05");
-    ask::slope(b"dimension 4, depth 0", sheet, b"\0\x02\0\x04\0\x06\0\x08");
+fn slopes_in_four(to: Stdout, sheet: &[u8]) {
+    ask::slope(
+        to,
+        b"dimension 4, depth 1",
+        sheet,
+        b"\0\x07\0\x05\0\x03\0\x01",
+    );
+    ask::slope(
+        to,
+        b"dimension 4, depth 2",
+        sheet,
+        b"\0\x0F\0\x06\0\x04\0\x02",
+    );
+    ask::slope(
+        to,
+        b"dimension 4, depth 3",
+        sheet,
+        b"\0\x0F\0\x0E\0\x05\0\x03",
+    );
+    ask::slope(
+        to,
+        b"dimension 4, depth 3",
+        sheet,
+        b"\0\x0F\0\x0E\0\x0D\0\x05",
+    );
+    ask::slope(
+        to,
+        b"dimension 4, depth 0",
+        sheet,
+        b"\0\x02\0\x04\0\x06\0\x08",
+    );
 }
 
-fn slopes() {
-    slopes_in_roots(&SHEET);
-    slopes_in_corner(&CORNER);
-    slopes_in_three(&linear::THREE);
-    slopes_in_four(&linear::FOUR);
+fn slopes(to: Stdout) {
+    slopes_in_roots(to, &SHEET);
+    slopes_in_corner(to, &CORNER);
+    slopes_in_three(to, &linear::THREE);
+    slopes_in_four(to, &linear::FOUR);
 }
 
 // "The listing program".
-fn listings() {
-    ask::listed(&SHEET);
-    ask::listed(&SHEET[..12]);
+fn listings(to: Stdout) {
+    ask::listed(to, &SHEET);
+    ask::listed(to, &SHEET[..12]);
     let large = [0u8; listing::SHEET_LIMIT + 1];
-    ask::listed(&large[..listing::SHEET_LIMIT]);
-    ask::listed(&large);
+    ask::listed(to, &large[..listing::SHEET_LIMIT]);
+    ask::listed(to, &large);
 }
 
 // "Slips that look right", the first two: the same place, and all signed permutations.
-fn first_slips() {
-    ask::crossed(b"slip 1, same place", b"\x02\x01\x01\x02", 0);
-    ask::crossed(b"slip 1, same place", b"\x02\x01\x02\x81", 1);
-    ask::checked(b"slip 2, any signs", b"\x02\x01\x81\x02");
-    ask::checked(b"slip 2, any signs", b"\x02\x00\x01\x82");
-    ask::checked(b"slip 2, any signs", b"\x02\x01\x01\x82");
+fn first_slips(to: Stdout) {
+    ask::crossed(to, b"slip 1, same place", b"\x02\x01\x01\x02", 0);
+    ask::crossed(to, b"slip 1, same place", b"\x02\x01\x02\x81", 1);
+    ask::checked(to, b"slip 2, any signs", b"\x02\x01\x81\x02");
+    ask::checked(to, b"slip 2, any signs", b"\x02\x00\x01\x82");
+    ask::checked(to, b"slip 2, any signs", b"\x02\x01\x01\x82");
 }
 
 // The other three: all entries turned, a low place deep inside, and a crossing that leaves more than the last box.
-fn other_slips() {
-    ask::coded(b"slip 3, all turned", b"\x01\x02\x03", b"\0\x01");
-    ask::coded(b"slip 3, all turned", b"\x01\x02\x03\x04", b"\0\0\x01");
-    ask::crossed(b"slip 4, low place", b"\x02\x00\x01\x02", 0);
-    ask::crossed(b"slip 4, low place", b"\x02\x04\x01\x82\x01\x02", 0);
-    ask::crossed(b"slip 4, low place", b"\x02\x04\x01\x82\x01\x02", 2);
-    ask::crossed(b"slip 5, last box", b"\x02\x06\x02\x01\x01\0\0", 2);
+fn other_slips(to: Stdout) {
+    ask::coded(to, b"slip 3, all turned", b"\x01\x02\x03", b"\0\x01");
+    ask::coded(to, b"slip 3, all turned", b"\x01\x02\x03\x04", b"\0\0\x01");
+    ask::crossed(to, b"slip 4, low place", b"\x02\x00\x01\x02", 0);
+    ask::crossed(to, b"slip 4, low place", b"\x02\x04\x01\x82\x01\x02", 0);
+    ask::crossed(to, b"slip 4, low place", b"\x02\x04\x01\x82\x01\x02", 2);
+    ask::crossed(to, b"slip 5, last box", b"\x02\x06\x02\x01\x01\0\0", 2);
     ask::crossed(
+        to,
         b"slip 5, last box",
         b"\x02\x18\x02\x01\x01\0\0\0\0\0\0\0\0\0\0\0",
         2,
     );
 }
 
-fn main() {
-    whole_sheets();
-    depths();
-    coordinates();
-    slopes();
-    listings();
-    first_slips();
-    other_slips();
+fn main(rt: HostRuntime) {
+    let to = rt.stdout();
+    whole_sheets(to);
+    depths(to);
+    coordinates(to);
+    slopes(to);
+    listings(to);
+    first_slips(to);
+    other_slips(to);
 }

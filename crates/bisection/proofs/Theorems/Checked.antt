@@ -4,7 +4,7 @@ use Rattle.std.proofs.Math.Path.{sym, ap}
 use Rattle.std.proofs.Common.{◌∙◌, subst, length-take, length-drop, length-append, take-append-drop, drop_at, drop-drop}
 use Rattle.std.proofs.Math.Bool.{not}
 use mathlib.Core.List.{List, [], ◌∷◌, ◌++◌}
-use Prim.Native.Nat.{ℕ, zero, suc, ◌+◌, ◌-◌, ◌^◌, ◌≤◌, ◌<◌}
+use Prim.Native.Nat.{ℕ, zero, suc, ◌+◌, ◌^◌, ◌≤◌, ◌<◌}
 use native.Mathlib.Omega.{arith}
 use Rattle.std.proofs.Math.Decide.{ℕ_discrete, dec_lt}
 use Rattle.std.proofs.Math.Dec.{leb, ltb}
@@ -12,7 +12,6 @@ use Rattle.std.proofs.Math.ListN.{length, get_or, take, drop}
 use Rattle.std.proofs.Math.Seq.{take_at}
 use borrow.Author.Tests.{lt-ltb, le-leb, eq-eqb, ne_eqb, leb-true, ltb-true, eqb-true, eqb-false, not-true}
 use Rattle.dimension.specs.Sizes.{is_dimension, greatest_depth, code_length, split_place, box_depth}
-use Rattle.dimension.specs.Laws.{dimension}
 use Rattle.bisection.specs.Codes.{axis, minus, Name, bytes, dimension_of, depth_of, entries_of, orthants_of, parts_of}
 use Rattle.bisection.specs.Refusals.{done, each, fresh, permutes, orthants_fit, own_minus, same_sign, signs_own, head_refusal, length_of, body_refusal, code_refusal}
 use Rattle.bisection.proofs.Theorems.Ladders.{first_is, all_hold, holds, past, held_at}

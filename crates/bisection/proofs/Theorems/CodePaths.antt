@@ -1,7 +1,7 @@
 -- Codes as bytes against roots and paths. Every code of a good root and a good path passes; every byte string
 -- that passes is the code of exactly one good root and good path; the child's code is the step of the code, and
 -- the parent's code is the one whose step it is.
-use Rattle.std.specs.Prelude.{◌≡◌, true, List, [], ◌∷◌, ◌++◌, ℕ, suc, ◌+◌, ◌-◌, ◌≤◌, ◌<◌, length}
+use Rattle.std.specs.Prelude.{◌≡◌, true, List, [], ◌∷◌, ◌++◌, ℕ, suc, ◌-◌, ◌≤◌, ◌<◌, length}
 use Rattle.std.proofs.Math.Path.{refl}
 use Rattle.std.proofs.Common.{sym, ap, ◌∙◌, arith, length-append}
 use Rattle.std.proofs.Math.Nat.{zero-add}

@@ -1,7 +1,7 @@
 -- Two cells, as ordered lists of points, are equal only if their codes are. Up to the place of its entry an axis
 -- keeps its first coordinate, so the cell tells the places; the first step tells the side, and so the depth; near
 -- and far tell the sign and the box, and the box its orthants.
-use Rattle.std.specs.Prelude.{◌≡◌, Bool, true, false, cond, not, List, [], ◌∷◌, ◌≢◌, ℕ, zero, suc, ◌+◌, ◌-◌, ◌*◌, ◌/◌, ◌%◌, ◌≤◌, ◌<◌, length, get_or}
+use Rattle.std.specs.Prelude.{◌≡◌, Bool, true, false, cond, not, List, [], ◌∷◌, ◌≢◌, ℕ, zero, suc, ◌+◌, ◌*◌, ◌/◌, ◌%◌, ◌≤◌, ◌<◌, length, get_or}
 use Rattle.std.proofs.Math.Path.{refl}
 use Rattle.std.proofs.Common.{sym, ap, ◌∙◌, subst, arith, ext_get_or}
 use Rattle.std.proofs.Math.Decide.{dec_lt, dec_le}

@@ -44,6 +44,7 @@ in_face p q a height low high edge e f = record { a = a; low = low; high = high;
     flat : (v : Point) → Memᴰ v (p ∷ q ∷ []) → coordinate v a ≡ height
     flat v (Memᴰ.head r) = rw r e
     flat v (Memᴰ.tail (Memᴰ.head r)) = rw r f
+    flat v (Memᴰ.tail (Memᴰ.tail m)) = elim m [ ]
 
 -- the diagonal is in none
 abbrev diagonal : List Point
@@ -61,6 +62,7 @@ diagonal_free w = go w.a w.low w.high (w.flat (0 ∷ 0 ∷ []) (Memᴰ.head refl
 diagonal_in : (p : Point) → HasAll diagonal ((0 ∷ 0 ∷ []) ∷ p ∷ (4096 ∷ 4096 ∷ []) ∷ [])
 diagonal_in p v (Memᴰ.head e) = Memᴰ.head e
 diagonal_in p v (Memᴰ.tail (Memᴰ.head e)) = Memᴰ.tail (Memᴰ.tail (Memᴰ.head e))
+diagonal_in p v (Memᴰ.tail (Memᴰ.tail m)) = elim m [ ]
 
 pub two_compatible : Compatible two_leaves_good.cells
 unfolding two_leaves_good facet cell_of cell_below root_cell corners moved cube_side halvings

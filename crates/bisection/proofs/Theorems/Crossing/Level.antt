@@ -9,7 +9,7 @@ use borrow.Author.Tests.{eq-eqb, ne_eqb}
 use Rattle.bisection.proofs.Theorems.Crossing.Sums.{same_place, at_axis}
 use Rattle.bisection.proofs.Theorems.Crossing.Rows.{sides_odd}
 use Rattle.bisection.proofs.Theorems.Crossing.Frames.{Frame, GoodFrame, Meets}
-use Rattle.bisection.proofs.Theorems.Crossing.Axes.{Same, Fits, Exchange, stay, up, down, near_kept, kept, kept_past, far_kept, swapped, whole_far, whole_at, whole_near, first}
+use Rattle.bisection.proofs.Theorems.Crossing.Axes.{Same, Fits, Exchange, stay, up, down, near_kept, kept, kept_past, far_kept, swapped, whole_far, whole_at, whole_near}
 use Rattle.bisection.proofs.Theorems.Table.{Move, swap, nearer, farther, trade}
 use Rattle.bisection.proofs.Theorems.Crossing.Moves.{apply, own, Lands, applies}
 

@@ -37,13 +37,15 @@ pub runs_out_own : (a : ℕ) (os : List ℕ) → runs_out (not (own_minus os a))
 unfolding runs_out
 runs_out_own a [] = refl
 runs_out_own a (o ∷ []) = unfold own_minus in same_not (high o a)
-runs_out_own a (o ∷ p ∷ os) = rw (own_cons a o p os, runs_out_own a (p ∷ os), eqb-suc-zero (length os), eqb-suc-zero (suc (length os))) (and_false (same_sign (high o a) (not (own_minus (p ∷ os) a))))
+runs_out_own a (o ∷ p ∷ os) = ap (λ (t : Bool). runs_out (not t) a (o ∷ p ∷ os)) (own_cons a o p os)
+    ∙ rw (runs_out_own a (p ∷ os), eqb-suc-zero (length os), eqb-suc-zero (suc (length os))) (and_false (same_sign (high o a) (not (own_minus (p ∷ os) a))))
 
 pub carried_own : (a : ℕ) (os : List ℕ) → carried (not (own_minus os a)) a os ≡ last_flipped a os
 unfolding carried last_flipped
 carried_own a [] = refl
 carried_own a (o ∷ []) = unfold runs_out in refl
-carried_own a (o ∷ p ∷ os) = rw (own_cons a o p os, runs_out_own a (p ∷ os), eqb-suc-zero (length os), carried_own a (p ∷ os), less (suc (length os)), less (length os)) refl
+carried_own a (o ∷ p ∷ os) = ap (λ (t : Bool). carried (not t) a (o ∷ p ∷ os)) (own_cons a o p os)
+    ∙ rw (runs_out_own a (p ∷ os), eqb-suc-zero (length os), carried_own a (p ∷ os), less (suc (length os)), less (length os)) refl
 
 module _ (d D : ℕ) (d0 : 0 < d) (m : Name) (p : Passes d D m) where
   own_first : minus (first_entry m) ≡ own_minus m.orthants (axis (first_entry m))

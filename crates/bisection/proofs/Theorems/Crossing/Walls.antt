@@ -96,6 +96,11 @@ module _ {N d k i : ℕ} {c : Frame} (k1 : 1 ≤ k) (kd : k ≤ d) (il : i ≤ d
         is_wall = w;
         flat = λ j l n. row_in k (c.at (c.axis 1)) (c.near (c.axis 1)) (c.far (c.axis 1)) j (omega (arith, g.perm.back 1 (omega arith) (omega arith))) (omega arith);
       }
+      go (is_left _ _ _ _) s = elim s [ ]
+      go (is_trade _ _ _ _) s = elim s [ ]
+      go (is_edge _ _ _ _) s = elim s [ ]
+      go (is_right _ _ _ _) s = elim s [ ]
+      go (is_swap _ _ _) s = elim s [ ]
 
   pub wall_stuck : OnWall N d k i c → Stuck N d c (move d k i (own k c))
   wall_stuck f = go (view d k i (own k c))

@@ -1,0 +1,21 @@
+-- `side_of` meets its contract: the cube's side, halved once for each orthant.
+use Rattle.dimension.specs.Sizes.{cube_side, halvings}
+use Rattle.corners.specs.Vertices.{frame_boxes, frame_side}
+use borrow.Author.Rules.{rules}
+use Rattle.corners.proofs.side_of.Goals as goal
+
+pub overflow_sub-result : goal.overflow_sub-result
+unfolding cube_side halvings
+overflow_sub-result c = (frame_boxes _ c.requires.0 c.requires.1).0
+
+pub overflow_sub-result-2 : goal.overflow_sub-result-2
+unfolding cube_side halvings
+overflow_sub-result-2 c = (frame_boxes _ c.requires.0 c.requires.1).1
+
+pub overflow_shr-result : goal.overflow_shr-result
+unfolding cube_side halvings
+overflow_shr-result c = (frame_boxes _ c.requires.0 c.requires.1).2
+
+pub returns : goal.returns
+unfolding cube_side halvings
+returns c = frame_side _ c.requires.0 c.requires.1

@@ -1,0 +1,29 @@
+-- `landing` meets its contract: the row of the facet, which leaves the box or stays in it.
+use mathlib.Core.Path.{refl}
+use native.Mathlib.Omega.{arith}
+use Rattle.crossing.specs.Landing.{lands_step}
+use Rattle.crossing.specs.Leaving.{facing_some, facing_whole, facing_few, facing_at, leaving}
+use Rattle.crossing.specs.Staying.{staying}
+use borrow.Author.Rules.{rules}
+use Rattle.crossing.proofs.landing.Goals as goal
+
+pub returns-then-d-i : goal.returns-then-d-i
+returns-then-d-i c = search (rules, lands_step)
+
+pub split_of-k-requires : goal.split_of-k-requires
+split_of-k-requires c = search (rules, facing_some, facing_whole)
+
+pub overflow_sub-d : goal.overflow_sub-d
+overflow_sub-d c = search (rules, facing_some)
+
+pub overflow_add-entry : goal.overflow_add-entry
+overflow_add-entry c = omega (arith, facing_few _ refl c.requires c.axes_of-d.ensures c.size-i.ensures c.split_of-k.ensures c.either.ensures c.if-either-d.true c.either-at.ensures)
+
+pub bounds-code-at : goal.bounds-code-at
+bounds-code-at c = facing_at _ refl c.requires c.axes_of-d.ensures c.size-i.ensures c.split_of-k.ensures c.either.ensures c.if-either-d.true c.either-at.ensures
+
+pub cross_outside-requires : goal.cross_outside-requires
+cross_outside-requires c = leaving _ refl c.requires c.axes_of-d.ensures c.size-i.ensures c.split_of-k.ensures c.either.ensures c.if-either-d.true c.either-at.ensures refl c.negate.ensures c.pick-e.ensures
+
+pub cross_inside-requires : goal.cross_inside-requires
+cross_inside-requires c = search (rules, staying)

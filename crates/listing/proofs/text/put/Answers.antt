@@ -1,0 +1,9 @@
+-- `put` meets its contract.
+use mathlib.Core.Path.{refl, ◌∙◌}
+use Prim.Native.Nat.{◌-◌}
+use Rattle.common.specs.Putting.{put_copy}
+use borrow.Author.Rules.{rules}
+use Rattle.listing.proofs.text.put.Goals as goal
+
+pub returns : goal.returns
+returns c = record { next = refl; is = c.copy.ensures ∙ put_copy c.args.at _ c.args.bytes.now c.args.out.now refl }
