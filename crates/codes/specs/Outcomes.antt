@@ -1,6 +1,6 @@
 -- What each entry of the code layer answers, for every input: the answer and every lent cell, refusals too.
 -- Document 01, "The code" and "Refusal numbers". `before` and `after` are a lent buffer at entry and at exit.
-use Rattle.std.specs.Prelude.{◌≡◌, ◌&&◌, List, [], ◌∷◌, ◌++◌, ◌≢◌, ℕ, suc, ◌+◌, ◌-◌, leb, ltb, length, drop}
+use Rattle.std.specs.Prelude.{◌≡◌, ◌&&◌, List, [], ◌∷◌, ◌++◌, ◌≢◌, ℕ, suc, ◌-◌, leb, ltb, length, drop}
 use Rattle.dimension.specs.Sizes.{is_dimension, greatest_depth, code_length, points_length}
 use Rattle.bisection.specs.Cells.{cell_of, cell_bytes}
 use Rattle.bisection.specs.Codes.{code_of, IsCodeOf, dimension_of, depth_of}

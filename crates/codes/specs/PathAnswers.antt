@@ -1,12 +1,12 @@
 -- Path to code and code to path: one law for each way out of the code.
-use Rattle.std.specs.Prelude.{◌≡◌, refl, Bool, true, false, not, List, ◌++◌, ◌≢◌, ℕ, ◌+◌, ◌-◌, ◌≤◌, ◌<◌, leb, length, get_or}
+use Rattle.std.specs.Prelude.{◌≡◌, refl, Bool, true, false, not, List, ◌++◌, ◌≢◌, ℕ, ◌≤◌, ◌<◌, leb, length, get_or}
 use Rattle.std.proofs.Common.{sym, ◌∙◌, subst, arith, length-append}
 use Rattle.std.proofs.Math.Path.{ap}
 use Rattle.std.proofs.Math.ListN.{drop}
 use borrow.Author.Tests.{le-leb, lt-leb, not-true, not-false}
 use Rattle.dimension.specs.declared.Dim.{Dim}
 use Rattle.dimension.specs.Sizes.{is_dimension, axes_of, greatest_depth, code_length}
-use Rattle.dimension.specs.Laws.{dimension, axes_dimension}
+use Rattle.dimension.specs.Laws.{axes_dimension}
 use Rattle.bisection.specs.Roots.{GoodRoot}
 use Rattle.bisection.specs.Codes.{axis, minus, bytes, code_of, IsCodeOf, dimension_of, depth_of}
 use Rattle.bisection.specs.Refusals.{done, refused_dimension, refused_depth, refused_permutation, refused_step, refused_short, each, permutes, code_refusal, is_root, is_path}

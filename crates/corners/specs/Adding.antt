@@ -6,7 +6,7 @@ use Rattle.std.proofs.Math.Bool.{cond}
 use Prim.Native.Nat.{ℕ, zero, suc, ◌+◌, ◌≤◌, ◌<◌}
 use Rattle.std.proofs.Math.Decide.{dec_lt, dec_le, ℕ_discrete}
 use Rattle.std.proofs.Math.ListN.{get_or-eq_default}
-use Rattle.bisection.specs.Codes.{axis, high}
+use Rattle.bisection.specs.Codes.{axis}
 use Rattle.bisection.proofs.Theorems.Entries.{Signed, Stands, stands}
 use Rattle.entries.specs.Masks.{axis_none}
 use Rattle.corners.specs.PointWords.{on_axis}

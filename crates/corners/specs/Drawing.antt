@@ -8,10 +8,9 @@ use native.Mathlib.Omega.{arith}
 use Rattle.std.proofs.Math.ListN.{length, drop}
 use Rattle.common.specs.Putting.{put, put_two, Puts, Putting, putting_start, putting_next, putting_end}
 use Rattle.dimension.specs.Sizes.{points_length}
-use Rattle.bisection.specs.Cells.{Cell, coordinate, vertex, point_bytes, cell_bytes}
+use Rattle.bisection.specs.Cells.{Cell, vertex, point_bytes, cell_bytes}
 use Rattle.bisection.specs.Codes.{dimension_of}
 use Rattle.bisection.specs.Refusals.{done, code_refusal}
-use Rattle.bisection.proofs.Theorems.Entries.{stands}
 use Rattle.bisection.proofs.Theorems.Lists.{point_size}
 use Rattle.corners.specs.PointWords.{coordinate_bytes, word_bytes, bytes_length}
 use Rattle.corners.specs.Vertices.{cell_in, vertex_in, Frame, VertexReady, VertexOf, code_dimension, code_sized, vertex_small}

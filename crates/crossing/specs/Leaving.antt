@@ -1,9 +1,9 @@
 -- A crossing that leaves the box: facet d, and facet 0 at the start of a level. One entry changes its sign, the box
 -- moves against an entry, and the new vertex stands where the old one did.
-use Rattle.std.specs.Prelude.{◌≡◌, Bool, false, not, cond, ◌≢◌, T, eqb, length, get_or, take}
+use Rattle.std.specs.Prelude.{◌≡◌, Bool, false, not, cond, ◌≢◌, eqb, length, get_or, take}
 use Rattle.std.proofs.Math.Path.{refl, sym, ap}
 use Rattle.std.proofs.Common.{◌∙◌, subst}
-use mathlib.Core.List.{List, [], ◌∷◌, ◌++◌, append_assoc}
+use mathlib.Core.List.{List, ◌∷◌, ◌++◌, append_assoc}
 use Prim.Native.Nat.{ℕ, suc, ◌+◌, ◌-◌, ◌≤◌, ◌<◌}
 use native.Mathlib.Omega.{arith}
 use Rattle.std.proofs.Math.Decide.{ℕ_discrete}
@@ -12,7 +12,7 @@ use Rattle.std.proofs.lemmas.List.{set-append_left}
 use Rattle.std.proofs.Math.Seq.{take_at}
 use borrow.Author.Tests.{eq-eqb, ne_eqb}
 use Rattle.dimension.specs.Sizes.{code_length, longest_of_all, split_place}
-use Rattle.bisection.specs.Codes.{axis, minus, negated, high, Name, bytes, dimension_of, depth_of, entries_of, orthants_of, parts_of}
+use Rattle.bisection.specs.Codes.{axis, minus, negated, Name, bytes, dimension_of, depth_of, entries_of, orthants_of, parts_of}
 use Rattle.bisection.specs.Refusals.{done, refused_face, refused_short, code_refusal}
 use Rattle.bisection.proofs.Theorems.Entries.{axis_negated, minus_negated}
 use Rattle.bisection.proofs.Theorems.Table.{nearer, farther, move, move_of, new_at, new_place, next_own, negated_at, entries_by, orthants_by, blocked_by, blocked, across_name, runs_out, carried}

@@ -1,6 +1,6 @@
 -- Distances on the line, in whole stretches and a part of one: compared, subtracted, added up.
-use Rattle.std.specs.Prelude.{◌≡◌, refl, Bool, true, false, ℕ, zero, suc, ◌+◌, ◌-◌, ◌*◌, ◌^◌, ◌≤◌, ◌<◌, T, ltb, leb}
-use Rattle.std.proofs.Common.{sym, ap, ◌∙◌, subst, arith, add-mul, mul-le-mul_right, ltb-true, ltb-false, leb-true, leb-false}
+use Rattle.std.specs.Prelude.{◌≡◌, Bool, true, false, ℕ, suc, ◌+◌, ◌-◌, ◌*◌, ◌^◌, ◌≤◌, ◌<◌, ltb, leb}
+use Rattle.std.proofs.Common.{ap, arith, add-mul, mul-le-mul_right, ltb-true, ltb-false, leb-true, leb-false}
 use Rattle.std.proofs.Math.Decide.{dec_lt}
 use Rattle.finding.specs.declared.Ahead.{Ahead}
 use Rattle.finding.specs.Finding.{distance}

@@ -3,7 +3,6 @@ use Rattle.std.specs.Prelude.{◌≡◌, refl, true, List, ℕ, suc, ◌+◌, �
 use Rattle.std.proofs.Common.{ap, ◌∙◌, subst, arith, mul-le-mul_right, le_of_mul-le-mul_right, lt_of_mul-lt-mul_right, mul_comm, div-add-mod', div-le_self, mod-lt, add-mul, length-set, pow_pos, get_or-set_same, get_or-set_other}
 use Rattle.std.proofs.Math.Decide.{dec_lt}
 use Rattle.dimension.specs.Sizes.{is_dimension, greatest_depth, code_length}
-use Rattle.dimension.specs.Laws.{dimension}
 use Rattle.bisection.specs.Roots.{roots}
 use Rattle.codes.specs.Fronts.{front_depth}
 use Rattle.positions.specs.RootNumbers.{roots_few}

@@ -1,12 +1,11 @@
 -- The search of a checked sheet for a place on the line: the sizes of the leaves are added up, and of each record only its depth is
 -- read.
-use Rattle.std.specs.Prelude.{◌≡◌, refl, Bool, true, false, not, List, ℕ, suc, ◌+◌, ◌-◌, ◌*◌, ◌^◌, ◌≤◌, ◌<◌, length}
+use Rattle.std.specs.Prelude.{◌≡◌, Bool, true, false, not, List, ℕ, suc, ◌+◌, ◌-◌, ◌*◌, ◌^◌, ◌<◌, length}
 use Rattle.std.proofs.Common.{ap, ◌∙◌, subst, arith}
 use Rattle.std.proofs.Math.Decide.{dec_lt}
 use Rattle.std.proofs.lemmas.Bool.{not-true, not-false}
 use Rattle.dimension.specs.Sizes.{is_dimension, greatest_depth, code_length}
 use Rattle.codes.specs.Fronts.{front_depth}
-use Rattle.positions.specs.Positions.{size_of}
 use Rattle.sheets.specs.Forests.{TreeCell}
 use Rattle.sheets.specs.Sheets.{GoodSheet, leaf_in}
 use Rattle.finding.specs.declared.Sought.{Sought}
@@ -14,7 +13,7 @@ use Rattle.finding.specs.declared.Ahead.{Ahead}
 use Rattle.finding.specs.Sizes.{sizes_to, sizes_next, sizes_past, Holds}
 use Rattle.finding.specs.Finding.{distance}
 use Rattle.finding.specs.Walk.{From}
-use Rattle.finding.specs.Distances.{ahead_by, NoLater, NoLaterIs, later_far, BetweenReady, BetweenIs}
+use Rattle.finding.specs.Distances.{ahead_by, NoLaterIs, later_far, BetweenReady, BetweenIs}
 use Rattle.finding.specs.Records.{onward, good_axes, AtRecord, record_stretch, record_depth, record_size, record_part, record_next}
 
 -- the place that is so far ahead of a leaf

@@ -8,14 +8,14 @@ use Rattle.std.proofs.Math.ListN.{length, length-append}
 use Rattle.dimension.specs.Laws.{dimension}
 use Rattle.bisection.specs.Codes.{code_of}
 use Rattle.bisection.specs.Refusals.{done}
-use Rattle.codes.specs.Fronts.{front_dimension, front_length, front_code}
-use Rattle.codes.specs.Fronts.Laws.{front_is_front, front_code_dimension, front_root}
+use Rattle.codes.specs.Fronts.{front_length, front_code}
+use Rattle.codes.specs.Fronts.Laws.{front_is_front}
 use Rattle.sheets.specs.declared.RecordParts.{RecordParts}
 use Rattle.sheets.specs.Forests.{TreeCell}
 use Rattle.sheets.specs.Sheets.{behind_mark, body_length, record_length, record_refusal, GoodSheet}
 use Rattle.sheets.specs.Steps.{PartsAre}
 use Rattle.sheets.specs.StepLaws.{part_all}
-use Rattle.sheets.specs.Theorems.Listing.{GoodCell, code_of_cell, Listed, listed_none, listed_more, record_of, record_passes, record_code, record_rest, record_read, IsRecord, CellsIn, cells_none, cells_more, records_listed, leaves_cells}
+use Rattle.sheets.specs.Theorems.Listing.{GoodCell, Listed, listed_none, listed_more, record_of, record_passes, record_code, record_rest, record_read, IsRecord}
 use Rattle.sheets.specs.Theorems.FirstRecord.{good_listed}
 use Rattle.listing.specs.Texts.{sheet_limit, decimal, hex, space, newline, leaf_line, leaf_lines, good_text}
 use Rattle.common.specs.Putting.{Puts, Putting, putting_start, putting_next, putting_end}

@@ -1,5 +1,5 @@
 -- The whole output: a good sheet's three parts, and the text at the front of the buffer.
-use Rattle.std.specs.Prelude.{◌≡◌, ℕ, ◌+◌, ◌-◌, ◌≤◌, min, take}
+use Rattle.std.specs.Prelude.{◌≡◌, ℕ, ◌+◌, ◌≤◌, min, take}
 use Rattle.std.proofs.Common.{sym, ◌∙◌, length-append, length-take}
 use Rattle.std.proofs.Math.Path.{ap, subst}
 use mathlib.Core.List.{List, ◌++◌}

@@ -9,7 +9,7 @@ use Rattle.std.specs.Int.Bits.{bit_and, bit_xor, xor_step, xor_zero_r}
 use Rattle.std.proofs.lemmas.Nat.{and_mask, and_le_r, xor_block}
 use Rattle.std.specs.Int.Count.{count_leading_zeros, leading_unique}
 use Rattle.std.proofs.Math.Pow.{field, mod-mod-pow}
-use Rattle.bisection.specs.Codes.{axis, minus, high}
+use Rattle.bisection.specs.Codes.{high}
 use Rattle.bisection.specs.Refusals.{each, same_sign}
 use Rattle.bisection.proofs.Theorems.Checked.{each_at}
 use Rattle.bisection.proofs.Theorems.Table.{flipped}

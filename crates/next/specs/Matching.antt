@@ -1,6 +1,6 @@
 -- The laws of `matches`. A code of the cell or of a first one inside it fixes the bytes: the dimension, a depth, the cell's
 -- entries, and the front of its orthants. So each test is passed by such bytes, and bytes that pass them all are such a code.
-use Rattle.std.specs.Prelude.{◌≡◌, Bool, true, false, not, ℕ, zero, suc, ◌+◌, ◌-◌, ◌^◌, ◌≤◌, ◌<◌, get_or, take, T}
+use Rattle.std.specs.Prelude.{◌≡◌, Bool, true, false, not, ℕ, ◌+◌, ◌-◌, ◌^◌, ◌≤◌, ◌<◌, get_or, take, T}
 use Rattle.std.proofs.Math.Path.{refl, ap}
 use Rattle.std.proofs.Common.{sym, ◌∙◌, subst, arith, length-take, length-drop, length-append, take-add}
 use mathlib.Core.List.{List, [], ◌∷◌, ◌++◌, append_assoc}

@@ -1,27 +1,24 @@
 -- The answers of the two queries, put together: the check of the sheet, the leaf's own weights, its samples and its value.
-use Rattle.std.specs.Prelude.{◌≡◌, refl, Bool, true, false, not, ◌≢◌, ℕ, zero, suc, ◌+◌, ◌-◌, ◌*◌, ◌/◌, ◌^◌, ◌≤◌, ◌<◌, length, get_or, take, leb, Float}
+use Rattle.std.specs.Prelude.{◌≡◌, refl, Bool, true, false, not, ◌≢◌, ℕ, suc, ◌+◌, ◌-◌, ◌*◌, ◌/◌, ◌^◌, ◌≤◌, ◌<◌, length, get_or, take, Float}
 use Rattle.std.proofs.Math.Path.{sym, ap}
 use Rattle.std.proofs.Common.{◌∙◌, subst, arith, length-take, length-drop, ext_get_or, get_or-take, length-take-le, pow_pos}
-use mathlib.Core.List.{List, [], ◌∷◌, ◌++◌}
+use mathlib.Core.List.{List, ◌++◌}
 use Rattle.std.proofs.Math.Nat.{mul-div_cancel_left}
 use Rattle.std.proofs.Math.ListN.{drop}
 use borrow.Author.Tests.{le-leb, lt-leb, not-true, not-false}
 use Rattle.common.specs.Putting.{put}
-use Rattle.dimension.specs.Sizes.{is_dimension, axes_of, cube_side, box_side, box_depth, side_after}
+use Rattle.dimension.specs.Sizes.{is_dimension, cube_side, box_side, box_depth}
 use Rattle.dimension.specs.Laws.{side_whole, side_of, box_in, dimension, cube_two_bytes, halvings_few}
 use Rattle.bisection.specs.Cells.{Point, point_bytes}
-use Rattle.bisection.specs.Refusals.{done, need, own, first_refusal, refused_short}
+use Rattle.bisection.specs.Refusals.{done, refused_short}
 use Rattle.bisection.specs.Weights.{Weighs}
 use Rattle.bisection.proofs.Theorems.CodePaths.{some_axes}
 use Rattle.bisection.proofs.Theorems.Ladders.{first_is, holds, fails, all_hold}
 use Rattle.bisection.proofs.Theorems.Weights.Axes.{weight_most}
-use Rattle.sheets.specs.declared.SheetAnswer.{SheetAnswer}
 use Rattle.sheets.specs.declared.Edition.{Edition}
-use Rattle.sheets.specs.declared.RecordParts.{RecordParts}
 use Rattle.sheets.specs.Forests.{TreeCell}
-use Rattle.sheets.specs.Sheets.{SheetIs, good, record_refused, not_next, ended_early, record_refusal, samples_of, GoodSheet, leaf_in, sheet_mark, sample_width, Good, Query, sheet_refused, sheet_good}
-use Rattle.sheets.specs.Steps.{mark_of, IsFirst, PartsAre}
-use Rattle.sheets.specs.Theorems.FirstRecord.{first_record}
+use Rattle.sheets.specs.Sheets.{samples_of, leaf_in, sheet_mark, sample_width, Good, Query, sheet_refused, sheet_good}
+use Rattle.sheets.specs.Steps.{mark_of, IsFirst}
 use Rattle.sheets.specs.Theorems.Listing.{GoodCell}
 use Rattle.points.specs.Points.{point_of, is_point, refused_point}
 use Rattle.points.proofs.Theorems.Cells.{weights_scaled}
@@ -31,13 +28,12 @@ use Rattle.greys.specs.Fractions.{Fraction}
 use Rattle.greys.specs.Samples.{grey_sum, Weighable}
 use Rattle.greys.specs.Exact.{cube_power, power_some}
 use Rattle.greys.specs.Sums.{InRatio, grey_same, cube_weighable}
-use Rattle.greys.specs.declared.Value.{Value}
 use Rattle.greys.specs.declared.Value.TheVariants.{Grey, Refused}
 use Rattle.finding.specs.declared.opened.Opened.{Opened}
 use Rattle.finding.specs.Opened.{OpenedIs, shut, checked, Checked, opened_checked}
 use Rattle.queries.specs.declared.Chosen.{Chosen}
 use Rattle.queries.specs.declared.LeafAnswer.{LeafAnswer}
-use Rattle.queries.specs.Queries.{cell_in, side_in, LeafAt, LeafWeights, weights_length, leaf_refusal, leaf_told, leaf_refused, leaf_found, LeafIs, ValueOn, value_refused, value_found, ValueIs}
+use Rattle.queries.specs.Queries.{cell_in, weights_length, leaf_refusal, leaf_told, leaf_refused, leaf_found, LeafIs, ValueOn, value_refused, value_found, ValueIs}
 use Rattle.finding.specs.Walk.{leaf_good}
 use Rattle.queries.specs.Choice.{ChoiceReady, ChosenIs}
 use Rattle.queries.specs.Writing.{halved, weight_bytes, WeightsReady, halved_at, halved_length, weights_length_is}

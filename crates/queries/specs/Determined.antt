@@ -1,22 +1,21 @@
 -- Two outcomes that the contract of the leaf query or of the value query allows are equal: a sheet is good in one way only, a point has one
 -- leaf there, and the leaf's weights, samples and value are one.
-use Rattle.std.specs.Prelude.{◌≡◌, refl, Bool, true, false, List, [], ◌∷◌, ◌++◌, ◌≢◌, ℕ, zero, suc, ◌+◌, ◌*◌, ◌≤◌, ◌<◌, T, leb, length, get_or, take, drop}
+use Rattle.std.specs.Prelude.{◌≡◌, refl, List, [], ◌∷◌, ◌++◌, ℕ, zero, suc, ◌*◌, ◌<◌, T, length, take, drop}
 use Rattle.std.proofs.Common.{sym, ap, ◌∙◌, subst, arith, take_at, drop_at}
 use Rattle.std.proofs.Math.Decide.{dec_lt}
-use Rattle.dimension.specs.Sizes.{box_side, greatest_depth}
+use Rattle.dimension.specs.Sizes.{box_side}
 use Rattle.dimension.specs.Laws.{side_of}
 use Rattle.bisection.specs.Cells.{Point, point_bytes}
 use Rattle.bisection.specs.Codes.{code_of}
-use Rattle.bisection.specs.Refusals.{done, need, refused_short}
+use Rattle.bisection.specs.Refusals.{done}
 use Rattle.bisection.proofs.Theorems.CodePaths.{some_axes}
 use Rattle.bisection.proofs.Theorems.Ladders.{held_at}
 use Rattle.sheets.specs.Forests.{TreeCell}
 use Rattle.sheets.specs.Sheets.{Records, none, more, samples_of, leaf_in, sample_width, Good}
-use Rattle.sheets.specs.declared.SheetAnswer.{SheetAnswer}
 use Rattle.sheets.specs.Theorems.Determined.{query_one}
 use Rattle.sheets.specs.Theorems.Good.{same_cells, same_axes}
 use Rattle.sheets.specs.Theorems.Listing.{GoodCell}
-use Rattle.points.specs.Points.{point_of, is_point, refused_point}
+use Rattle.points.specs.Points.{point_of, is_point}
 use Rattle.points.proofs.Theorems.Cells.{weights_one}
 use Rattle.points.proofs.Theorems.CubePoints.{point_in_cube}
 use Rattle.greys.specs.Fractions.{Fraction}
@@ -25,7 +24,7 @@ use Rattle.greys.specs.Exact.{fraction_one}
 use Rattle.greys.specs.Values.{flat_of}
 use Rattle.greys.specs.declared.ValueAnswer.{ValueAnswer}
 use Rattle.greys.specs.declared.Value.{Value}
-use Rattle.greys.specs.declared.Value.TheVariants.{Grey, Refused}
+use Rattle.greys.specs.declared.Value.TheVariants.{Grey}
 use Rattle.queries.specs.declared.LeafAnswer.{LeafAnswer}
 use Rattle.queries.specs.Queries.{side_in, LeafAt, LeafWeights, weights_length, leaf_refusal, leaf_told, LeafOn, leaf_refused, leaf_found, LeafIs, ValueOn, value_refused, value_found, ValueIs, FlatValueIs}
 use Rattle.finding.specs.Walk.{leaf_good}

@@ -1,6 +1,6 @@
 -- Document 01, "Sheets" and "Refusal numbers": the leaf at a point, and what the leaf query and the value query answer, every lent
 -- cell included. The whole sheet is checked first, then 12, then 11 where the weights go to a lent buffer.
-use Rattle.std.specs.Prelude.{◌≡◌, true, false, List, [], ◌∷◌, ◌++◌, ◌≢◌, ℕ, zero, suc, ◌*◌, ◌<◌, leb, length, get_or, drop, Float}
+use Rattle.std.specs.Prelude.{◌≡◌, true, false, List, [], ◌∷◌, ◌++◌, ◌≢◌, ℕ, suc, ◌*◌, ◌<◌, leb, length, drop, Float}
 use Rattle.dimension.specs.Sizes.{box_side}
 use Rattle.bisection.specs.Cells.{Point, Cell, cell_of, point_bytes}
 use Rattle.bisection.specs.Refusals.{done, refused_short, need, first_refusal}

@@ -1,5 +1,5 @@
 -- The answer of the slope query, put together: the check of the sheet, the leaf's code and samples, its slopes.
-use Rattle.std.specs.Prelude.{◌≡◌, refl, Bool, true, not, List, ℕ, suc, ◌+◌, ◌-◌, ◌*◌, ◌≤◌, length, take, drop}
+use Rattle.std.specs.Prelude.{◌≡◌, refl, Bool, true, not, List, ℕ, suc, ◌+◌, ◌*◌, ◌≤◌, length, take, drop}
 use Rattle.std.proofs.Common.{sym, ap, ◌∙◌, subst, arith}
 use Rattle.std.proofs.lemmas.Bool.{not-true}
 use Rattle.dimension.specs.Sizes.{code_length}

@@ -7,15 +7,12 @@ use Prim.Native.Nat.{ℕ, suc, ◌+◌, ◌≤◌, ◌<◌}
 use native.Mathlib.Omega.{arith}
 use Rattle.std.proofs.Math.Dec.{T}
 use Rattle.std.proofs.Math.Seq.{drop-cons}
-use Rattle.dimension.specs.Laws.{dimension}
 use Rattle.bisection.specs.Roots.{roots}
 use Rattle.next.specs.declared.Next.{Next}
 use Rattle.next.specs.declared.Onward.{Onward}
 use Rattle.next.specs.Paths.{steps, zeros}
 use Rattle.next.specs.Nexts.{Stands, Gone, on, over, FirstIs}
-use Rattle.sheets.specs.declared.State.{State}
 use Rattle.sheets.specs.Forests.{TreeCell, tree_cell}
-use Rattle.sheets.specs.Sheets.{next}
 use Rattle.sheets.specs.Theorems.Frontier.{advance, advance_on, advance_over, Follows, end, leaf, follows_one}
 use Rattle.sheets.specs.Theorems.Frontier.{follows_split, follows_join}
 use Rattle.sheets.specs.Theorems.Frontier as frontier

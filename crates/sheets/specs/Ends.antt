@@ -1,8 +1,7 @@
 -- Behind the loop of the sheet check: a good sheet, or one that ended early.
-use Rattle.std.specs.Prelude.{◌≡◌, refl, List, [], ◌++◌, ◌≢◌, ℕ, ◌+◌, ◌≤◌, length, drop}
+use Rattle.std.specs.Prelude.{◌≡◌, refl, List, [], ◌++◌, ◌≢◌, ℕ, ◌≤◌, length, drop}
 use Rattle.std.proofs.Common.{sym, ap, ◌∙◌, subst, append-nil, arith, length-drop, drop_of_length-le, take_all}
 use Rattle.dimension.specs.Sizes.{greatest_depth, root_count}
-use Rattle.dimension.specs.Laws.{dimension}
 use Rattle.bisection.specs.Roots.{roots}
 use Rattle.bisection.specs.Refusals.{done}
 use Rattle.positions.specs.RootNumbers.{roots_count, roots_some}

@@ -15,11 +15,11 @@ use Rattle.next.specs.declared.Next.{Next}
 use Rattle.next.specs.declared.Match.{Match}
 use Rattle.next.specs.declared.Onward.{Onward}
 use Rattle.next.specs.Paths.{steps, zeros}
-use Rattle.next.specs.Nexts.{Stands, First, Matched, Gone, on, over, AfterIs}
+use Rattle.next.specs.Nexts.{Stands, First, Matched, Gone, AfterIs}
 use Rattle.next.specs.Matching.{matched_ready, matched_boxes}
 use Rattle.sheets.specs.declared.State.{State}
 use Rattle.sheets.specs.Forests.{TreeCell, tree_cell, Leaves}
-use Rattle.sheets.specs.Sheets.{refused_leaf, GoodSheet, Begins, behind_mark, body_length, record_length, record_refusal, Read, start, next, told, Checks, good, record_refused}
+use Rattle.sheets.specs.Sheets.{refused_leaf, GoodSheet, Begins, behind_mark, body_length, record_length, record_refusal, Read, start, next, told, Checks, record_refused}
 use Rattle.sheets.specs.Sheets.{not_next}
 use Rattle.sheets.specs.Steps.{state_of, OpenIs, opens, shut, Known, body_of, FitsIs, no_dimension, unmarked, no_root, other, cut_short, fitting, MoveReady, MoveIs}
 use Rattle.sheets.specs.Steps as steps_of

@@ -9,7 +9,7 @@ use Rattle.std.proofs.Math.ListN.{length}
 use Rattle.std.proofs.Math.Seq.{paste, take_at, take-append-add}
 use Rattle.dimension.specs.Sizes.{code_length, longest_of_all, split_place, box_depth}
 use Rattle.dimension.specs.Laws.{split_range, split_is}
-use Rattle.bisection.specs.Codes.{axis, high, Name, bytes, depth_of, orthants_of, parts_of}
+use Rattle.bisection.specs.Codes.{axis, Name, bytes, depth_of, orthants_of, parts_of}
 use Rattle.bisection.specs.Refusals.{own_minus}
 use Rattle.bisection.proofs.Theorems.Entries.{unturned_append, unturned_length}
 use Rattle.bisection.proofs.Theorems.Passing.{Passes, fewer, last_step, unstepped, parent_name}

@@ -1,5 +1,4 @@
 -- `code_depth` meets its contract: the depth is read as it stands.
-use mathlib.Core.Path.{◌≡◌}
 use borrow.Author.Rules.{rules}
 use Rattle.bisection.specs.Codes.{depth_of}
 use Rattle.codes.specs.Fronts.Laws.{front_depth_is}

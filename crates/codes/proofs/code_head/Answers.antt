@@ -4,11 +4,9 @@ use mathlib.Core.Bool.{false}
 use Prim.Native.Nat.{ℕ}
 use native.Mathlib.Omega.{arith}
 use Rattle.dimension.specs.Sizes.{is_dimension, axes_of, code_length}
-use Rattle.dimension.specs.Known.{KnownIs}
 use Rattle.dimension.specs.Laws.{axes_dimension}
 use Rattle.bisection.specs.Codes.{dimension_of, depth_of}
 use Rattle.codes.specs.Heads.{head_none, head_deep, head_done}
-use borrow.Author.Rules.{rules}
 use Rattle.codes.proofs.code_head.Goals as goal
 
 pub returns-then-greatest_depth-depth : goal.returns-then-greatest_depth-depth

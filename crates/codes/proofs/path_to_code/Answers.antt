@@ -1,8 +1,5 @@
 -- `path_to_code` meets its contract: no dimension is refused, the rest is that of `path_in`.
-use mathlib.Core.Path.{subst}
-use Rattle.dimension.specs.Known.{KnownIs}
 use Rattle.codes.specs.PathAnswers.{path_dimension}
-use borrow.Author.Rules.{rules}
 use Rattle.codes.proofs.path_to_code.Goals as goal
 
 pub path_in-requires : goal.path_in-requires

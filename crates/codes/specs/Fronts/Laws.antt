@@ -1,6 +1,6 @@
 -- The laws of a code at the front of bytes: how its head and what stands inside make up the code's refusal, and what becomes of
 -- a code that passes where more bytes follow it. The first five open the names for the code layer itself.
-use Rattle.std.specs.Prelude.{◌≡◌, true, List, ◌++◌, ℕ, ◌+◌, ◌≤◌, length, drop}
+use Rattle.std.specs.Prelude.{◌≡◌, true, List, ◌++◌, ℕ, ◌≤◌, length, drop}
 use Rattle.std.proofs.Math.Path.{refl, sym, ap}
 use Rattle.std.proofs.Common.{◌∙◌, take-append-drop}
 use native.Mathlib.Omega.{arith}

@@ -1,10 +1,7 @@
 -- `all_hold` meets its contract. The loop keeps: those facets of the leaves before this one pass, and where this one starts.
-use Prim.Native.Nat.{◌-◌}
 use native.Mathlib.Omega.{arith}
-use lib.ListN.{length}
-use Rattle.sheets.specs.Steps.{mark_of}
 use Rattle.finding.specs.Records.{depth_sixty}
-use Rattle.compatible.specs.Walking.{sheet_known, Judging, judging_start, judging_about, judging_record, judging_fails, judging_ends, judging_fits, judging_next, judging_done}
+use Rattle.compatible.specs.Walking.{sheet_known, judging_start, judging_about, judging_record, judging_fails, judging_ends, judging_fits, judging_next, judging_done}
 use borrow.Author.Rules.{rules}
 use Rattle.compatible.proofs.all_hold.Goals as goal
 

@@ -1,7 +1,5 @@
 -- `leaf_holds` meets its contract. The loop keeps: the facets before this one but facet 0 pass.
-use Prim.Native.Nat.{suc, ◌-◌}
-use Rattle.sheets.specs.Steps.{mark_of}
-use Rattle.compatible.specs.Walking.{leaf_second, Facing, facing_start, facing_ready, facing_few, facing_next, facing_fails, facing_end}
+use Rattle.compatible.specs.Walking.{leaf_second, facing_start, facing_ready, facing_few, facing_next, facing_fails, facing_end}
 use borrow.Author.Rules.{rules}
 use Rattle.compatible.proofs.leaf_holds.Goals as goal
 

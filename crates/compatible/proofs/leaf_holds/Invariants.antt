@@ -1,8 +1,7 @@
 -- `leaf_holds` meets its contract. The loop keeps: the facets before this one but facet 0 pass.
 use Prim.Native.Nat.{suc, ◌-◌}
 use Rattle.sheets.specs.Steps.{mark_of}
-use Rattle.compatible.specs.Walking.{leaf_second, Facing, facing_start, facing_ready, facing_few, facing_next, facing_fails, facing_end}
-use borrow.Author.Rules.{rules}
+use Rattle.compatible.specs.Walking.{Facing}
 use Rattle.compatible.proofs.leaf_holds.Given as goal
 
 abbrev pub invariant-loop-facet : goal.invariant-loop-facet

@@ -1,5 +1,4 @@
 -- `leaves_compatible` meets its contract: the index is that of the sheet.
-use native.Mathlib.Omega.{arith}
 use Rattle.compatible.specs.Answers.{index_ready, sheet_ready, first_holds}
 use borrow.Author.Rules.{rules}
 use Rattle.compatible.proofs.leaves_compatible.Goals as goal

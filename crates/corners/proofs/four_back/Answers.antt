@@ -3,7 +3,6 @@ use mathlib.Core.Path.{ap, ◌∙◌}
 use Prim.Native.Nat.{ℕ}
 use native.Mathlib.Omega.{arith}
 use Rattle.entries.specs.Words.{word_of, four_from}
-use borrow.Author.Rules.{rules}
 use Rattle.corners.proofs.four_back.Goals as goal
 
 pub overflow_sub-n : goal.overflow_sub-n

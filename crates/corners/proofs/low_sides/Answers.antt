@@ -2,7 +2,7 @@
 use mathlib.Core.Path.{refl}
 use native.Mathlib.Omega.{arith}
 use Rattle.dimension.specs.Sizes.{halvings}
-use Rattle.corners.specs.Lows.{LowsSoFar, lows_none, lows_fit, lows_next, lows_boxes, lows_whole, lows_all}
+use Rattle.corners.specs.Lows.{lows_none, lows_fit, lows_next, lows_boxes, lows_whole, lows_all}
 use Rattle.corners.proofs.low_sides.Goals as goal
 
 pub loop-back-init : goal.loop-back-init

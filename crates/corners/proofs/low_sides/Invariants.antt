@@ -1,8 +1,5 @@
 -- `low_sides` meets its contract. The loop keeps: all bytes but the last `back` are the digits read.
-use mathlib.Core.Path.{refl}
-use native.Mathlib.Omega.{arith}
-use Rattle.dimension.specs.Sizes.{halvings}
-use Rattle.corners.specs.Lows.{LowsSoFar, lows_none, lows_fit, lows_next, lows_boxes, lows_whole, lows_all}
+use Rattle.corners.specs.Lows.{LowsSoFar}
 use Rattle.corners.proofs.low_sides.Given as goal
 
 abbrev pub invariant-loop-back : goal.invariant-loop-back

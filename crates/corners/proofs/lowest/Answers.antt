@@ -1,6 +1,5 @@
 -- `lowest` meets its contract.
 use Rattle.corners.specs.Lows.{lowest_made, lowest_some, lowest_fits}
-use borrow.Author.Rules.{rules}
 use Rattle.corners.proofs.lowest.Goals as goal
 
 pub overflow_sub-result : goal.overflow_sub-result

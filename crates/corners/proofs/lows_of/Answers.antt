@@ -1,6 +1,5 @@
 -- `lows_of` meets its contract: what the code's orthants give.
 use Rattle.corners.specs.Vertices.{frame_orthants, frame_lows}
-use borrow.Author.Rules.{rules}
 use Rattle.corners.proofs.lows_of.Goals as goal
 
 pub side_of-requires : goal.side_of-requires

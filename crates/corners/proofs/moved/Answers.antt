@@ -1,6 +1,5 @@
 -- `moved` meets its contract: the sum is that of whole numbers, since the step leads to a number of two bytes.
 use Rattle.corners.specs.Steps.{moved_fits, moved_casts, moved_value}
-use borrow.Author.Rules.{rules}
 use Rattle.corners.proofs.moved.Goals as goal
 
 pub overflow_add-y : goal.overflow_add-y

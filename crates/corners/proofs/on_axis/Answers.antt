@@ -1,6 +1,5 @@
 -- `on_axis` meets its contract: x is shifted to the axis.
 use Rattle.corners.specs.PointWords.{on_axis_by}
-use borrow.Author.Rules.{rules}
 use Rattle.corners.proofs.on_axis.Goals as goal
 
 pub returns : goal.returns

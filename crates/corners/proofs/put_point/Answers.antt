@@ -1,8 +1,7 @@
 -- `put_point` meets its contract. The loop keeps: the first n coordinates are put, and `left` has the others.
-use Prim.Native.Nat.{◌-◌}
 use native.Mathlib.Omega.{arith}
 use lib.ListN.{length-set}
-use Rattle.corners.specs.Drawing.{Coordinates, put_start, put_room, put_next, put_end}
+use Rattle.corners.specs.Drawing.{put_start, put_room, put_next, put_end}
 use borrow.Author.Rules.{rules}
 use Rattle.corners.proofs.put_point.Goals as goal
 

@@ -1,9 +1,6 @@
 -- `put_point` meets its contract. The loop keeps: the first n coordinates are put, and `left` has the others.
 use Prim.Native.Nat.{◌-◌}
-use native.Mathlib.Omega.{arith}
-use lib.ListN.{length-set}
-use Rattle.corners.specs.Drawing.{Coordinates, put_start, put_room, put_next, put_end}
-use borrow.Author.Rules.{rules}
+use Rattle.corners.specs.Drawing.{Coordinates}
 use Rattle.corners.proofs.put_point.Given as goal
 
 abbrev pub invariant-loop-n : goal.invariant-loop-n

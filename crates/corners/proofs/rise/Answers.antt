@@ -1,6 +1,5 @@
 -- `rise` meets its contract.
 use Rattle.corners.specs.Steps.{picks}
-use borrow.Author.Rules.{rules}
 use Rattle.corners.proofs.rise.Goals as goal
 
 pub returns : goal.returns

@@ -1,7 +1,6 @@
 -- `side_of` meets its contract: the cube's side, halved once for each orthant.
 use Rattle.dimension.specs.Sizes.{cube_side, halvings}
 use Rattle.corners.specs.Vertices.{frame_boxes, frame_side}
-use borrow.Author.Rules.{rules}
 use Rattle.corners.proofs.side_of.Goals as goal
 
 pub overflow_sub-result : goal.overflow_sub-result

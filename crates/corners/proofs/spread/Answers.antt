@@ -3,7 +3,7 @@ use Rattle.std.proofs.Common.{◌≡◌, arith}
 use mathlib.Core.Path.{refl}
 use Rattle.bisection.specs.Codes.{high}
 use Rattle.corners.specs.PointWords.{in_word}
-use Rattle.corners.specs.Lows.{spread_of, spread_last}
+use Rattle.corners.specs.Lows.{spread_of}
 use Rattle.corners.proofs.spread.Goals as goal
 
 pub returns-in-0 : goal.returns-in-0

@@ -1,7 +1,6 @@
 -- `step_of` meets its contract: a side of two bytes and its negation fit an i32.
 use native.Mathlib.Omega.{arith}
 use Rattle.corners.specs.Steps.{step_down_fits, step_down, step_up}
-use borrow.Author.Rules.{rules}
 use Rattle.corners.proofs.step_of.Goals as goal
 
 pub overflow_sub-result : goal.overflow_sub-result

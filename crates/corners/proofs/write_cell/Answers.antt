@@ -1,8 +1,7 @@
 -- `write_cell` meets its contract. The loop keeps: the first j vertices are written, and nothing else.
-use Prim.Native.Nat.{◌+◌, ◌-◌}
 use native.Mathlib.Omega.{arith}
 use Rattle.corners.specs.Vertices.{frame_split, frame_entries, frame_made}
-use Rattle.corners.specs.Drawing.{Drawing, draw_start, draw_few, draw_ready, draw_room, draw_next, draw_end}
+use Rattle.corners.specs.Drawing.{draw_start, draw_few, draw_ready, draw_room, draw_next, draw_end}
 use borrow.Author.Rules.{rules}
 use Rattle.corners.proofs.write_cell.Goals as goal
 

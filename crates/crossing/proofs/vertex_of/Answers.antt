@@ -1,7 +1,6 @@
 -- `vertex_of` meets its contract: 16 bits of the word for each axis.
 use mathlib.Core.Path.{refl}
 use Rattle.crossing.specs.Unpacking.{unpacked}
-use borrow.Author.Rules.{rules}
 use Rattle.crossing.proofs.vertex_of.Goals as goal
 
 pub returns : goal.returns

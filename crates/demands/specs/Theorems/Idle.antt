@@ -1,9 +1,8 @@
 -- No idle program meets its contract: on a few inputs the contract allows another outcome alone.
-use Rattle.std.specs.Prelude.{◌≡◌, refl, Bool, true, false, List, [], ◌∷◌, ◌++◌, ◌≢◌, ℕ, zero, suc, ◌≤◌, ◌<◌, T, length, get_or, take, drop}
-use Rattle.std.proofs.Common.{sym, ap, ◌∙◌, subst, arith}
+use Rattle.std.specs.Prelude.{◌≡◌, refl, List, [], ◌∷◌, ◌++◌, ◌≢◌, ℕ, zero, suc, ◌≤◌, length, get_or, take, drop}
+use Rattle.std.proofs.Common.{ap, ◌∙◌, arith}
 use Rattle.dimension.specs.Sizes.{is_dimension, halvings, cube_side, greatest_depth, level, split_place, box_depth, code_length}
 use Rattle.bisection.specs.Cells.{moved, corners, root_cell, cell_below, cell_of}
-use Rattle.bisection.specs.Roots.{roots, arrangements, joined, picks, axes_from}
 use Rattle.bisection.specs.Codes.{minus, axis, negated, turned, stepped, high, minus_on, orthant_to, orthant, step, name_below, name_of, bytes, code_of, dimension_of, depth_of, entries_of, orthants_of, parts_of}
 use Rattle.bisection.specs.Refusals.{done, first_refusal, each, fresh, permutes, orthants_fit, own_minus, signs_own, head_refusal, length_of, body_refusal, code_refusal, is_root, is_path}
 use Rattle.bisection.proofs.Theorems.Table.{move, new_at, exchanged, negated_at, entries_by, flipped, runs_out, carried, orthants_by, blocked_by, next_own, move_of, blocked, across_name, new_place}

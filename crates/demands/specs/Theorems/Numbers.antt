@@ -1,9 +1,9 @@
 -- Refusals of the entries: each is a number of the table, and what a query of a sheet refuses while reading it has the sheet check's
 -- offset.
-use Rattle.std.specs.Prelude.{◌≡◌, refl, true, false, List, [], ◌∷◌, ◌≢◌, ℕ, zero, suc, ◌≤◌, length, drop}
-use Rattle.std.proofs.Common.{sym, ap, ◌∙◌, subst, arith}
+use Rattle.std.specs.Prelude.{◌≡◌, refl, true, false, List, [], ◌∷◌, ◌≢◌, ℕ, zero, suc, ◌≤◌, drop}
+use Rattle.std.proofs.Common.{ap, ◌∙◌, arith}
 use Rattle.bisection.specs.Refusals.{done, Test, need, own, first_refusal, head_refusal, body_refusal, code_refusal}
-use Rattle.codes.specs.Fronts.{front_refusal, inner_refusal, front_code}
+use Rattle.codes.specs.Fronts.{front_code}
 use Rattle.codes.specs.Fronts.Laws.{front_refusal_is, inner_refusal_is}
 use Rattle.codes.specs.Outcomes.{path_refusal, to_path_refusal, vertices_refusal, child_refusal, parent_refusal}
 use Rattle.sheets.specs.declared.SheetAnswer.{SheetAnswer}

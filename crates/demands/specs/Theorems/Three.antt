@@ -1,10 +1,10 @@
 -- Demand 3 holds, from the contract of crossing.
 use Rattle.std.specs.Prelude.{◌≡◌, refl, List, ◌≢◌, ℕ, ◌≤◌, length, take}
-use Rattle.std.proofs.Common.{sym, ap, ◌∙◌, subst, arith}
+use Rattle.std.proofs.Common.{sym, ◌∙◌, subst, arith}
 use Rattle.dimension.specs.Sizes.{code_length}
 use Rattle.bisection.specs.Cells.{Cell, vertex}
 use Rattle.bisection.specs.Codes.{dimension_of, depth_of}
-use Rattle.bisection.specs.Refusals.{done, refused_face, code_refusal}
+use Rattle.bisection.specs.Refusals.{done, refused_face}
 use Rattle.bisection.specs.Facets.{facet, InFace, IsCell, Shares, Across}
 use Rattle.bisection.proofs.Theorems.CodePaths.{length_root, length_path_of}
 use Rattle.bisection.proofs.Theorems.CodeCells.{cell_passes, one_cell}

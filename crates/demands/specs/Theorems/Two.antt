@@ -1,5 +1,5 @@
 -- Demand 2 holds, from the contracts and the bisection's theorems.
-use Rattle.std.specs.Prelude.{◌≡◌, refl, true, false, List, ◌++◌, ◌≢◌, ℕ, suc, ◌*◌, ◌≤◌, ◌<◌, leb, ltb, length, get_or, take, drop, Float}
+use Rattle.std.specs.Prelude.{◌≡◌, refl, true, List, ℕ, suc, ◌*◌, ◌≤◌, leb, length, get_or, take, drop, Float}
 use Rattle.std.proofs.Common.{sym, ap, ◌∙◌, subst, arith, take_at, leb-true, ltb-true}
 use Rattle.dimension.specs.Sizes.{greatest_depth, split_place}
 use Rattle.bisection.specs.Cells.{Point, Cell, cell_of, cell_bytes, point_bytes, child}
@@ -16,10 +16,9 @@ use Rattle.bisection.proofs.Theorems.CodeCells.{one_cell, same_code}
 use Rattle.bisection.proofs.Theorems.Slopes.One.{OneSlope, one_slope}
 use Rattle.codes.specs.declared.Written.{Written}
 use Rattle.codes.specs.declared.PathWritten.{PathWritten}
-use Rattle.codes.specs.Outcomes.{Writes, Answers, path_refusal, PathToCode, CodeToPath, PathOf, VerticesOf, Vertices, child_refusal, ChildOf, Child, ParentOf, Parent}
+use Rattle.codes.specs.Outcomes.{Writes, path_refusal, PathToCode, CodeToPath, PathOf, Vertices, child_refusal, Child, Parent}
 use Rattle.codes.specs.PathAnswers.{good_root}
 use Rattle.codes.specs.Bisects.{child_bisects, parent_bisects}
-use Rattle.sheets.specs.Forests.{TreeCell}
 use Rattle.sheets.specs.declared.SheetAnswer.{SheetAnswer}
 use Rattle.sheets.specs.Sheets.{SheetIs, good, record_refused, not_next, ended_early, Good, told, leaf_in, sample_width, samples_of, sheet_refused, sheet_good}
 use Rattle.sheets.specs.Theorems.Determined.{sheet_determined}
@@ -27,7 +26,7 @@ use Rattle.sheets.specs.Theorems.Good.{same_cells}
 use Rattle.sheets.specs.Theorems.Listing.{GoodCell}
 use Rattle.queries.specs.declared.LeafAnswer.{LeafAnswer}
 use Rattle.finding.specs.Walk.{leaf_good}
-use Rattle.queries.specs.Queries.{LeafIs, LeafAt, LeafWeights, LeafOn, leaf_refused, leaf_found, leaf_told, weights_length, side_in, ValueIs, ValueOn, value_refused, value_found}
+use Rattle.queries.specs.Queries.{LeafIs, LeafAt, LeafWeights, LeafOn, leaf_refused, leaf_found, weights_length, side_in, ValueIs, ValueOn, value_refused, value_found}
 use Rattle.greys.specs.Fractions.{Fraction}
 use Rattle.greys.specs.Samples.{grey_sum, sample_at}
 use Rattle.greys.specs.declared.Value.{Value}

@@ -1,8 +1,7 @@
 -- `fill` meets its contract. The loop keeps: the entries so far are those of their records, and the next one is at hand.
 use Prim.Native.Nat.{◌-◌}
 use Rattle.sheets.specs.Steps.{mark_of}
-use Rattle.finding.specs.Indexes.{Filling, fill_start, fill_at, fill_put, fill_count, fill_left, fill_end, fill_walk, fill_on, fill_less}
-use borrow.Author.Rules.{rules}
+use Rattle.finding.specs.Indexes.{Filling}
 use Rattle.finding.proofs.fill.Given as goal
 
 abbrev pub invariant-loop-number : goal.invariant-loop-number

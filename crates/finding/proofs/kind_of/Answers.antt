@@ -1,5 +1,5 @@
 -- `kind_of` meets its contract.
-use Rattle.finding.specs.Theorems.OneOfThree.{same, larger, smaller, kind_left}
+use Rattle.finding.specs.Theorems.OneOfThree.{same, larger, kind_left}
 use borrow.Author.Rules.{rules}
 use Rattle.finding.proofs.kind_of.Goals as goal
 

@@ -1,7 +1,6 @@
 -- `nearest` meets its contract. The loop keeps: the entry at the low end is no later than the place.
 use Prim.Native.Nat.{◌-◌}
-use Rattle.finding.specs.Finds.{Nearer, nearer_fits, nearer_room, nearer_low, nearer_high, nearer_end}
-use borrow.Author.Rules.{rules}
+use Rattle.finding.specs.Finds.{Nearer}
 use Rattle.finding.proofs.nearest.Given as goal
 
 abbrev pub invariant-loop-low : goal.invariant-loop-low

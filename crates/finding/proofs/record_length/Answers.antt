@@ -1,7 +1,6 @@
 -- `record_length` meets its contract: the mark, the code and the samples.
 use native.Mathlib.Omega.{arith}
 use Rattle.finding.specs.Records.{code_read}
-use borrow.Author.Rules.{rules}
 use Rattle.finding.proofs.record_length.Goals as goal
 
 pub overflow_add-result : goal.overflow_add-result

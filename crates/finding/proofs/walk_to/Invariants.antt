@@ -1,10 +1,7 @@
 -- `walk_to` meets its contract. The loop keeps: the entry is that of record n, in whatever sheet the first one belongs to.
 use Prim.Native.Nat.{◌-◌}
-use native.Mathlib.Omega.{arith}
 use Rattle.sheets.specs.Steps.{mark_of}
-use Rattle.finding.specs.Indexes.{Walking, walk_axes, walk_start, walk_at, walk_join, walk_next, walk_end}
-use Rattle.finding.specs.Records.{depth_sixty, record_two, record_code, record_above, record_power, record_known, record_deep, record_fits}
-use borrow.Author.Rules.{rules}
+use Rattle.finding.specs.Indexes.{Walking}
 use Rattle.finding.proofs.walk_to.Given as goal
 
 abbrev pub invariant-loop-n : goal.invariant-loop-n

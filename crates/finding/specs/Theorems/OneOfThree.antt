@@ -1,22 +1,21 @@
 -- Every cell is among the leaves of a good sheet in exactly one of the three ways, and at one number: the leaf whose part of the line
 -- holds the start of the cell.
-use Rattle.std.specs.Prelude.{◌≡◌, refl, true, List, [], ◌∷◌, ◌++◌, ℕ, zero, suc, ◌+◌, ◌-◌, ◌*◌, ◌^◌, ◌≤◌, ◌<◌, length, get_or}
-use Rattle.std.proofs.Common.{sym, ap, ◌∙◌, subst, append_assoc, append-nil, arith, mul-le-mul_right, length-append}
+use Rattle.std.specs.Prelude.{◌≡◌, refl, List, [], ◌∷◌, ◌++◌, ℕ, suc, ◌+◌, ◌*◌, ◌^◌, ◌≤◌, ◌<◌, length, get_or}
+use Rattle.std.proofs.Common.{sym, ap, ◌∙◌, subst, append-nil, arith, mul-le-mul_right, length-append}
 use Rattle.std.proofs.Math.Decide.{dec_lt}
-use Rattle.dimension.specs.Sizes.{is_dimension, greatest_depth}
+use Rattle.dimension.specs.Sizes.{greatest_depth}
 use Rattle.bisection.specs.Roots.{roots}
 use Rattle.bisection.proofs.Theorems.Paths.{Steps}
 use Rattle.positions.specs.Positions.{start_of, size_of}
-use Rattle.positions.specs.declared.Position.{Position}
-use Rattle.positions.specs.RootNumbers.{number_in, numbered, roots_number}
+use Rattle.positions.specs.RootNumbers.{number_in, numbered}
 use Rattle.sheets.specs.Forests.{TreeCell, tree_cell}
 use Rattle.sheets.specs.Sheets.{GoodSheet, leaf_in}
 use Rattle.sheets.specs.Theorems.Good.{good_tiles}
 use Rattle.sheets.specs.Theorems.Listing.{GoodCell}
 use Rattle.finding.specs.declared.Kind.{Kind}
 use Rattle.finding.specs.declared.Kind.TheVariants.{Leaf, Inside, Split}
-use Rattle.finding.specs.Finding.{LiesIn, StrictlyIn, Among, is_leaf, inside, split}
-use Rattle.finding.specs.Sizes.{sizes_to, sizes_rise, sizes_one, Holds, Some, sizes_some, tiles_sum, tiles_total}
+use Rattle.finding.specs.Finding.{LiesIn, Among, is_leaf, inside, split}
+use Rattle.finding.specs.Sizes.{sizes_to, sizes_rise, sizes_one, Holds, sizes_some, tiles_sum, tiles_total}
 use Rattle.finding.specs.Walk.{leaf_good}
 use Rattle.finding.specs.Theorems.Nested.{part_ends, part_inside, size_some, size_longer, size_same, Nested, goes_on, begins, nested, same_stretch}
 

@@ -2,7 +2,6 @@
 use mathlib.Core.Path.{refl, ◌∙◌}
 use Rattle.sheets.specs.Theorems.FirstRecord.{first_record}
 use Rattle.listing.specs.Whole.{first_fits, leaves_fit, last_fits, good_puts}
-use borrow.Author.Rules.{rules}
 use Rattle.listing.proofs.put_good.Goals as goal
 
 pub record_parts-first-requires : goal.record_parts-first-requires

@@ -1,10 +1,7 @@
 -- `put_leaves` meets its contract. The loop keeps: the lines of the leaves that are left make the text whole.
 use mathlib.Core.Path.{refl}
-use Prim.Native.Nat.{◌-◌}
 use native.Mathlib.Omega.{arith}
-use Rattle.sheets.specs.Steps.{mark_of}
-use Rattle.listing.specs.Leaves.{ListingOn, on_start, on_line, on_end}
-use borrow.Author.Rules.{rules}
+use Rattle.listing.specs.Leaves.{on_start, on_line, on_end}
 use Rattle.listing.proofs.put_leaves.Goals as goal
 
 pub loop-number-init : goal.loop-number-init

@@ -1,7 +1,6 @@
 -- `put_refused` meets its contract: five texts, one behind the other.
 use native.Mathlib.Omega.{arith}
-use Rattle.listing.specs.Lines.{RefusedLine, refused_short, refused_fits}
-use borrow.Author.Rules.{rules}
+use Rattle.listing.specs.Lines.{refused_short, refused_fits}
 use Rattle.listing.proofs.put_refused.Goals as goal
 
 pub put_decimal-at-requires : goal.put_decimal-at-requires

@@ -1,6 +1,5 @@
 -- `number` meets its contract.
 use native.Mathlib.Omega.{arith}
-use borrow.Author.Rules.{rules}
 use Rattle.moves.proofs.number.Goals as goal
 
 pub returns-then-own : goal.returns-then-own

@@ -1,9 +1,6 @@
 -- `climb` meets its contract. The loop keeps: the 1s left to drop lead to the same cell.
-use native.Mathlib.Omega.{arith}
-use Rattle.dimension.specs.Laws.{axes_range, split_sub, split_fits, split_rest}
 use Rattle.fours.specs.Laws.{four_of}
-use Rattle.next.specs.Climbing.{Loop, loop_start, loop_end, loop_small, loop_some, loop_boxes, loop_place, loop_turn, loop_more}
-use borrow.Author.Rules.{rules}
+use Rattle.next.specs.Climbing.{Loop}
 use Rattle.next.proofs.climb.Given as goal
 
 abbrev pub invariant-loop-left : goal.invariant-loop-left

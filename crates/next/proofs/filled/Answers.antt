@@ -1,7 +1,6 @@
 -- `filled` meets its contract.
 use native.Mathlib.Omega.{arith}
 use Rattle.next.specs.Digits.{fill_places, fill_some, fill_high, fill_low, fill_is}
-use borrow.Author.Rules.{rules}
 use Rattle.next.proofs.filled.Goals as goal
 
 pub overflow_mul-from : goal.overflow_mul-from

@@ -1,7 +1,6 @@
 -- `four_digits` meets its contract.
 use mathlib.Core.Path.{refl}
 use Rattle.next.specs.Digits.{digits_sum}
-use borrow.Author.Rules.{rules}
 use Rattle.next.proofs.four_digits.Goals as goal
 
 pub returns : goal.returns

@@ -1,6 +1,5 @@
 -- `same_few` meets its contract. The loop keeps: all are the same exactly where the rest is.
-use Prim.Native.Nat.{◌-◌}
-use Rattle.next.specs.Digits.{Comparing, comparing_start, comparing_on, compared_not, compared}
+use Rattle.next.specs.Digits.{comparing_start, comparing_on, compared_not, compared}
 use borrow.Author.Rules.{rules}
 use Rattle.next.proofs.same_few.Goals as goal
 

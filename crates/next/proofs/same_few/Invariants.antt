@@ -1,7 +1,6 @@
 -- `same_few` meets its contract. The loop keeps: all are the same exactly where the rest is.
 use Prim.Native.Nat.{◌-◌}
-use Rattle.next.specs.Digits.{Comparing, comparing_start, comparing_on, compared_not, compared}
-use borrow.Author.Rules.{rules}
+use Rattle.next.specs.Digits.{Comparing}
 use Rattle.next.proofs.same_few.Given as goal
 
 abbrev pub invariant-loop-i : goal.invariant-loop-i

@@ -1,8 +1,6 @@
 -- `number` meets its contract. The loop keeps: n is the number that the entries before place i give.
 use Prim.Native.Nat.{◌-◌}
-use native.Mathlib.Omega.{arith}
-use Rattle.positions.specs.RootNumbers.{Numbering, numbering_start, numbering_times, numbering_sum, numbering_next, numbering_end}
-use borrow.Author.Rules.{rules}
+use Rattle.positions.specs.RootNumbers.{Numbering}
 use Rattle.positions.proofs.number.Given as goal
 
 abbrev pub invariant-loop-i : goal.invariant-loop-i

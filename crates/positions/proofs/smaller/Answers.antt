@@ -1,11 +1,9 @@
 -- `smaller` meets its contract. The loop keeps: n counts the smaller entries before place j.
-use mathlib.Core.Path.{◌≡◌, sym, ap, ◌∙◌}
-use Prim.Native.Nat.{ℕ, ◌+◌, ◌-◌, ◌≤◌, ◌<◌}
-use mathlib.Core.Logic.{⊎_elim}
+use mathlib.Core.Path.{sym, ap, ◌∙◌}
+use Prim.Native.Nat.{ℕ, ◌+◌}
 use native.Mathlib.Omega.{arith}
 use native.Mathlib.Numerals.{add-one}
 use Rattle.positions.specs.RootNumbers.{smaller_in, smaller_none, smaller_more, smaller_same, smaller_few}
-use borrow.Author.Rules.{rules}
 use Rattle.positions.proofs.smaller.Goals as goal
 use Rattle.positions.proofs.smaller.Goals.{then-root-j, else-root-j}
 
@@ -20,7 +18,7 @@ loop-j-preserved c = let counted = c.loop-j.invariant.2 in (
   omega arith,
   omega arith,
   rw add-one (elim c.if-root-j.branch [
-    then-root-j w ↦ w.n-is ∙ ap (λ (k : ℕ). k + 1) counted ∙ sym (smaller_more _ _ _ c.loop-j.invariant.0 w.if-root-j.true)
+    | then-root-j w ↦ w.n-is ∙ ap (λ (k : ℕ). k + 1) counted ∙ sym (smaller_more _ _ _ c.loop-j.invariant.0 w.if-root-j.true)
     | else-root-j w ↦ w.n-is ∙ counted ∙ sym (smaller_same _ _ _ c.loop-j.invariant.0 w.if-root-j.false)
   ]),
 )

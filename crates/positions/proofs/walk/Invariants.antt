@@ -1,9 +1,7 @@
 -- `walk` meets its contract. The loop keeps: the steps taken back are the path's end, start is where it leads, and k and
 -- boxes are those of the depth.
 use Rattle.entries.specs.Words.{bytes_of}
-use Rattle.steps.specs.Climbs.{rise_boxes, rise_place, rise_room, rise_some, rise_ready}
-use Rattle.positions.specs.Walks.{Walked, walk_none, walk_next, walk_done, walk_weight, walk_start, walk_double}
-use borrow.Author.Rules.{rules}
+use Rattle.positions.specs.Walks.{Walked}
 use Rattle.positions.proofs.walk.Given as goal
 
 abbrev pub invariant-loop-t : goal.invariant-loop-t

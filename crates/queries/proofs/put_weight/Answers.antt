@@ -2,7 +2,6 @@
 use native.Mathlib.Omega.{arith}
 use lib.ListN.{length-set}
 use Rattle.common.specs.Putting.{put_two}
-use borrow.Author.Rules.{rules}
 use Rattle.queries.proofs.put_weight.Goals as goal
 
 pub bounds-out-n-2 : goal.bounds-out-n-2

@@ -1,7 +1,6 @@
 -- `write_weights` meets its contract. The loop keeps: the weights from n on are still to be put.
 use Prim.Native.Nat.{suc, ◌-◌}
-use Rattle.queries.specs.Writing.{Writing, writing_start, writing_index, writing_few, writing_small, writing_room, writing_next, writing_same, writing_end}
-use borrow.Author.Rules.{rules}
+use Rattle.queries.specs.Writing.{Writing}
 use Rattle.queries.proofs.write_weights.Given as goal
 
 abbrev pub invariant-loop-n : goal.invariant-loop-n

@@ -1,6 +1,6 @@
 -- The leaf at a point is the one leaf on the way down to it: those before it lie in a half, or in a root, that does not contain the
 -- point. So no leaf needs a test, and every good sheet has a leaf at every point of the cube.
-use Rattle.std.specs.Prelude.{◌≡◌, refl, true, ◌⊎◌, ℕ, zero, suc, ◌+◌, ◌≤◌, ◌<◌, get_or}
+use Rattle.std.specs.Prelude.{◌≡◌, refl, true, ◌⊎◌, ℕ, zero, suc, ◌≤◌, ◌<◌, get_or}
 use Rattle.std.proofs.Math.Path.{sym, ap}
 use Rattle.std.proofs.Common.{◌∙◌, subst, inl, inr, arith}
 use mathlib.Core.List.{List, [], ◌∷◌, ◌++◌, append_assoc}

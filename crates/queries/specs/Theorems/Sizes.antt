@@ -1,7 +1,7 @@
 -- The leaf at a point by sizes: the deepest cell on the way to a point lies in the part of the leaf at the point. So a search needs
 -- the depths of the leaves alone.
 use Rattle.std.specs.Prelude.{◌≡◌, refl, true, List, [], ◌∷◌, ◌++◌, ◌⊎◌, ℕ, zero, suc, ◌+◌, ◌-◌, ◌*◌, ◌^◌, ◌≤◌, ◌<◌, get_or}
-use Rattle.std.proofs.Common.{sym, ◌∙◌, subst, append_assoc, inl, inr, arith, pow_pos}
+use Rattle.std.proofs.Common.{sym, ◌∙◌, append_assoc, inl, inr, arith, pow_pos}
 use Rattle.std.proofs.Math.Path.{ap}
 use Rattle.std.proofs.Math.ListN.{length, length-append}
 use Rattle.dimension.specs.Sizes.{is_dimension, greatest_depth}
@@ -16,7 +16,6 @@ use Rattle.sheets.specs.Theorems.Tiles.{leaves_tile}
 use Rattle.finding.specs.Sizes.{sizes_to, sizes_rise, sizes_one, tiles_sum, start_joined}
 use Rattle.ways.specs.Ways.{Way, LocatedIs}
 use Rattle.ways.specs.declared.Located.{Located}
-use Rattle.queries.specs.Queries.{LeafAt}
 use Rattle.queries.specs.Theorems.OnTheWay.{Found, leaf_on_way}
 
 way_small : {root way : List ℕ} {p : Point} → Way root way p → (front rest : List ℕ) → way ≡ front ++ rest → (n : ℕ) → length rest ≤ n → start_of n rest < 2 ^ n

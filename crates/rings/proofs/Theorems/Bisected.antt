@@ -6,7 +6,7 @@ use mathlib.Core.List.Memᴰ
 use mathlib.Core.List.{List, [], ◌∷◌, Memᴰ}
 use Rattle.std.proofs.Math.Decide.{ℕ_discrete}
 use Rattle.dimension.specs.Sizes.{is_dimension, greatest_depth, split_place}
-use Rattle.bisection.specs.Cells.{Point, Cell, vertex, child}
+use Rattle.bisection.specs.Cells.{Point, Cell, vertex}
 use Rattle.bisection.specs.Facets.{facet, HasAll}
 use Rattle.bisection.proofs.Theorems.Lists.{middle}
 use Rattle.bisection.proofs.Theorems.Crossing.Points.{Found, mem_place, place_mem, OtherPlace, mem_facet, facet_mem, facet_part}

@@ -1,5 +1,5 @@
 -- The claim about the forms, for the leaves of a forest on all roots of a dimension.
-use Rattle.std.specs.Prelude.{◌≡◌, Bool, true, false, ◌≢◌, List, [], ℕ}
+use Rattle.std.specs.Prelude.{◌≡◌, Bool, true, false, ◌≢◌, List, ℕ}
 use Rattle.std.proofs.Common.{ap, ◌∙◌, subst}
 use Rattle.dimension.specs.Sizes.{is_dimension, greatest_depth}
 use Rattle.bisection.specs.Roots.{roots}

@@ -2,7 +2,6 @@
 use mathlib.Core.Path.{sym, ◌∙◌}
 use lib.ListN.{length-take}
 use Rattle.sheets.specs.StepLaws.{body_head, body_cut, body_headed, body_inner, body_samples, body_done, least}
-use borrow.Author.Rules.{rules}
 use Rattle.sheets.proofs.body_refusal.Goals as goal
 
 pub returns-then-head-ne-DONE : goal.returns-then-head-ne-DONE

@@ -7,7 +7,6 @@ use borrow.Author.Tests.{not-true, not-false}
 use Rattle.dimension.specs.Sizes.{root_count}
 use Rattle.sheets.specs.Steps.{no_dimension, unmarked, no_root, other, cut_short, fitting}
 use Rattle.sheets.specs.StepLaws.{marked_long, marked_two, part_marked, part_all, match_behind}
-use borrow.Author.Rules.{rules}
 use Rattle.sheets.proofs.fits.Goals as goal
 
 pub returns-then-state-eq0 : goal.returns-then-state-eq0

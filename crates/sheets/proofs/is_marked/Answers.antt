@@ -1,7 +1,6 @@
 -- `is_marked` meets its contract: four bytes, and the first two are the mark.
 use native.Mathlib.Omega.{arith}
 use Rattle.sheets.specs.StepLaws.{marked_short, marked_first, marked_second}
-use borrow.Author.Rules.{rules}
 use Rattle.sheets.proofs.is_marked.Goals as goal
 
 pub returns-then-bytes : goal.returns-then-bytes

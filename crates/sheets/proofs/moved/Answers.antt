@@ -2,7 +2,6 @@
 use mathlib.Core.Path.{ap}
 use Prim.Native.Nat.{ℕ, ◌+◌}
 use Rattle.sheets.specs.Steps.{state_of, on, over}
-use borrow.Author.Rules.{rules}
 use Rattle.sheets.proofs.moved.Goals as goal
 
 pub after-onward-requires : goal.after-onward-requires

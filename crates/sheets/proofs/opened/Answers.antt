@@ -4,7 +4,6 @@ use mathlib.Core.Path.{sym, ◌∙◌}
 use native.Mathlib.Omega.{arith}
 use borrow.Author.Tests.{not-true, not-false}
 use Rattle.sheets.specs.StepLaws.{marked_long, marked_two, part_marked, head_behind, open_unmarked, open_refused, open_known, open_first}
-use borrow.Author.Rules.{rules}
 use Rattle.sheets.proofs.opened.Goals as goal
 
 pub returns-then-not-is_marked : goal.returns-then-not-is_marked

@@ -3,7 +3,6 @@ use mathlib.Core.Path.{ap}
 use Prim.Native.Nat.{ℕ, ◌+◌}
 use native.Mathlib.Omega.{arith}
 use Rattle.sheets.specs.StepLaws.{marked_long, marked_two, parts_marked, parts_inside, parts_whole, parts_are, part_marked, head_behind}
-use borrow.Author.Rules.{rules}
 use Rattle.sheets.proofs.record_parts.Goals as goal
 
 pub slice_bounds-code_head-count : goal.slice_bounds-code_head-count

@@ -5,7 +5,6 @@ use native.Mathlib.Omega.{arith}
 use borrow.Author.Tests.{not-true, not-false}
 use Rattle.sheets.specs.Sheets.{unmarked_refusal}
 use Rattle.sheets.specs.StepLaws.{marked_long, marked_two, part_marked, record_unmarked, record_marked}
-use borrow.Author.Rules.{rules}
 use Rattle.sheets.proofs.record_refusal.Goals as goal
 
 pub returns-then-not-is_marked : goal.returns-then-not-is_marked

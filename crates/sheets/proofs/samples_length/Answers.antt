@@ -1,7 +1,6 @@
 -- `samples_length` meets its contract: a product of two bytes.
 use native.Mathlib.Omega.{arith}
 use Rattle.sheets.specs.StepLaws.{samples_small, samples_as}
-use borrow.Author.Rules.{rules}
 use Rattle.sheets.proofs.samples_length.Goals as goal
 
 pub overflow_mul-result : goal.overflow_mul-result

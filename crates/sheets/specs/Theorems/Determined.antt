@@ -1,5 +1,5 @@
 -- The answer of the sheet check is determined, and so are the leaves of a good sheet.
-use Rattle.std.specs.Prelude.{◌≡◌, refl, List, [], ◌++◌, ◌≢◌, ℕ, suc, ◌+◌, ◌-◌, ◌*◌, ◌≤◌, ◌<◌, length, take, drop}
+use Rattle.std.specs.Prelude.{◌≡◌, refl, List, [], ◌++◌, ◌≢◌, ℕ, suc, ◌+◌, ◌*◌, ◌≤◌, ◌<◌, length, take, drop}
 use Rattle.std.proofs.Common.{sym, ap, ◌∙◌, subst, append-nil, arith, zero-add, length-drop, take-append-drop, drop-drop}
 use Rattle.std.proofs.Math.Decide.{dec_lt}
 use Rattle.bisection.specs.Refusals.{done}

@@ -1,5 +1,5 @@
 -- The first record of a good sheet: it passes its own tests, and is of the sheet's dimension.
-use Rattle.std.specs.Prelude.{◌≡◌, refl, List, [], ℕ, ◌<◌, length}
+use Rattle.std.specs.Prelude.{◌≡◌, refl, List, ℕ, ◌<◌, length}
 use Rattle.std.proofs.Common.{sym, ap, ◌∙◌, arith}
 use Rattle.bisection.specs.Refusals.{done}
 use Rattle.codes.specs.Fronts.{front_dimension, front_code}

@@ -1,7 +1,7 @@
 -- The frontier rule, for any list of roots: after the leaf with root r and path p drop the 1s at the path's end and
 -- turn the last 0 into 1, or, where there is no 0, go to the next root; the next leaf is the frontier followed by
 -- zeros only. A path is kept here with its last step first, a step 1 as true, so that the rule reads it from its end.
-use Rattle.std.specs.Prelude.{◌≡◌, refl, Bool, true, false, List, [], ◌∷◌, ◌++◌, ℕ, zero, suc, ◌+◌, length}
+use Rattle.std.specs.Prelude.{◌≡◌, refl, Bool, true, false, List, [], ◌∷◌, ◌++◌, ℕ, zero, suc, length}
 use Rattle.std.proofs.Common.{sym, ap, ◌∙◌, arith}
 use Rattle.next.specs.Paths.{steps, steps_length, zeros, zeros_length, stripped}
 use Rattle.sheets.specs.Forests.{TreeCell, tree_cell, NoDeeper, Leaves, root_cells}

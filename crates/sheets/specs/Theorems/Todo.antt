@@ -1,6 +1,6 @@
 -- Trees by the list of cells still to do: a list of leaves begins those of a forest just when each leaf in turn is
 -- the first cell still to do, or lies first inside it; it is those of a forest just when nothing is then left.
-use Rattle.std.specs.Prelude.{◌≡◌, refl, List, [], ◌∷◌, ◌++◌, ℕ, ◌+◌, ◌≤◌, length}
+use Rattle.std.specs.Prelude.{◌≡◌, refl, List, [], ◌∷◌, ◌++◌, ℕ, ◌≤◌, length}
 use Rattle.std.proofs.Common.{ap, append_assoc, append-nil, arith, length-append}
 use Rattle.sheets.specs.Forests.{TreeCell, tree_cell, child_of, Tree, leaf, node, leaves, Forest, none, more, NoDeeper, no_deeper_none, no_deeper_more, Leaves, root_cells}
 

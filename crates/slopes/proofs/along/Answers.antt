@@ -1,7 +1,6 @@
 -- `along` meets its contract: what rises less what falls, by the sign.
 use Rattle.bisection.specs.Codes.{minus}
 use Rattle.slopes.specs.Along.{along_ready, along_is}
-use borrow.Author.Rules.{rules}
 use Rattle.slopes.proofs.along.Goals as goal
 
 pub by_sign-requires : goal.by_sign-requires

@@ -1,7 +1,6 @@
 -- `by_sign` meets its contract: a minus takes the two numbers the other way round.
 use Rattle.bisection.specs.Codes.{minus}
 use Rattle.slopes.specs.Along.{signed_ready, signed_is}
-use borrow.Author.Rules.{rules}
 use Rattle.slopes.proofs.by_sign.Goals as goal
 
 pub quotient-requires : goal.quotient-requires

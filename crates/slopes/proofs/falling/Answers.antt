@@ -1,6 +1,5 @@
 -- `falling` meets its contract.
 use Rattle.slopes.specs.Along.{falling_fits, falling_is}
-use borrow.Author.Rules.{rules}
 use Rattle.slopes.proofs.falling.Goals as goal
 
 pub overflow_add-result : goal.overflow_add-result

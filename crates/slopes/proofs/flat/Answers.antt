@@ -1,7 +1,6 @@
 -- `flat` meets its contract, case by case: 0.0 is +0.0.
 use mathlib.Core.Path.{sym, ap}
 use lib.Ieee.{of_bits, of_fields, odd}
-use borrow.Author.Rules.{rules}
 use Rattle.slopes.specs.Slopes.{flat_of}
 use Rattle.slopes.proofs.flat.Goals as goal
 

@@ -1,9 +1,8 @@
 -- `in_cell` meets its contract. The loop keeps: the slopes along the first i entries are on their axes, the other axes have +0.0.
-use Prim.Native.Nat.{◌-◌}
 use native.Mathlib.Omega.{arith}
 use lib.Ieee.{of_bits, of_fields, odd}
 use Rattle.corners.specs.Vertices.{frame_entries, frame_split}
-use Rattle.slopes.specs.Gathering.{Gathering, ready_passes, ready_sample, gather_start, gather_sample, gather_entry, gather_power, gather_axis, gather_place, gather_next, gather_end}
+use Rattle.slopes.specs.Gathering.{ready_passes, ready_sample, gather_start, gather_sample, gather_entry, gather_power, gather_axis, gather_place, gather_next, gather_end}
 use borrow.Author.Rules.{rules}
 use Rattle.slopes.proofs.in_cell.Goals as goal
 

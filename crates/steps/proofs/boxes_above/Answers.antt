@@ -1,5 +1,4 @@
 -- `boxes_above` meets its contract: a box goes where a level began.
-use Prim.Native.Nat.{◌-◌}
 use Rattle.steps.specs.Above.{boxes_first, boxes_on}
 use Rattle.steps.proofs.boxes_above.Goals as goal
 

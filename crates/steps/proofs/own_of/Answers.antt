@@ -1,7 +1,6 @@
 -- `own_of` meets its contract: the last of the orthants, or none.
 use mathlib.Core.Path.{◌∙◌}
 use Rattle.steps.specs.Above.{own_either}
-use borrow.Author.Rules.{rules}
 use Rattle.steps.proofs.own_of.Goals as goal
 
 pub returns : goal.returns

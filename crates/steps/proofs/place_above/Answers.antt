@@ -1,7 +1,5 @@
 -- `place_above` meets its contract: a new level begins at place 1.
-use Prim.Native.Nat.{◌-◌}
 use Rattle.steps.specs.Above.{place_first, place_on}
-use borrow.Author.Rules.{rules}
 use Rattle.steps.proofs.place_above.Goals as goal
 
 pub returns-then-k-axes : goal.returns-then-k-axes

@@ -1,8 +1,6 @@
 -- `place_after` meets its contract.
 use mathlib.Core.Path.{refl}
-use Prim.Native.Nat.{◌-◌}
 use borrow.Author.Tests.{eq-eqb, ne_eqb}
-use borrow.Author.Rules.{rules}
 use Rattle.steps.proofs.place_after.Goals as goal
 
 pub returns-then-k-eq1 : goal.returns-then-k-eq1

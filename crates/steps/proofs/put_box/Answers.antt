@@ -1,7 +1,5 @@
 -- `put_box` meets its contract: the orthant that the entries give, where k is 1.
-use native.Mathlib.Omega.{arith}
 use Rattle.steps.specs.Steps.{box_kept, box_put}
-use borrow.Author.Rules.{rules}
 use Rattle.steps.proofs.put_box.Goals as goal
 
 pub returns-then-k-ne1 : goal.returns-then-k-ne1

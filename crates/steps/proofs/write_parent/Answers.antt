@@ -1,5 +1,5 @@
 -- `write_parent` meets its contract: the front of the code, and the entries one step up.
-use mathlib.Core.Path.{refl, ◌∙◌}
+use mathlib.Core.Path.{refl}
 use native.Mathlib.Omega.{arith}
 use lib.ListN.{length-set}
 use Rattle.dimension.specs.Laws.{axes_range, split_fits, split_sub, split_rest}

@@ -1,7 +1,6 @@
 -- `choose` meets its contract.
 use native.Mathlib.Omega.{arith}
 use Rattle.ways.specs.Ways.{low, high}
-use borrow.Author.Rules.{rules}
 use Rattle.ways.proofs.choose.Goals as goal
 
 pub returns-then-w-k : goal.returns-then-w-k

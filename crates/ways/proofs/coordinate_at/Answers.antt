@@ -2,7 +2,6 @@
 use Prim.Native.Nat.{◌+◌, ◌-◌, ◌*◌}
 use native.Mathlib.Omega.{arith}
 use Rattle.points.proofs.Theorems.CubePoints.{coordinate_bytes}
-use borrow.Author.Rules.{rules}
 use Rattle.ways.proofs.coordinate_at.Goals as goal
 
 pub overflow_mul-result : goal.overflow_mul-result

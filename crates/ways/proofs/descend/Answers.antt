@@ -1,9 +1,7 @@
 -- `descend` meets its contract: each step goes on the way.
-use Prim.Native.Nat.{◌-◌}
 use native.Mathlib.Omega.{arith}
 use native.Mathlib.Numerals.{add-one}
-use Rattle.dimension.specs.Sizes.{axes_of}
-use Rattle.ways.specs.Descents.{Descending, descend_start, down_ready, double_fits, position_fits, descend_next, descend_end}
+use Rattle.ways.specs.Descents.{descend_start, down_ready, double_fits, position_fits, descend_next, descend_end}
 use borrow.Author.Rules.{rules}
 use Rattle.ways.proofs.descend.Goals as goal
 

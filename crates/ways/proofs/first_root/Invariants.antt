@@ -1,11 +1,7 @@
 -- `first_root` meets its contract: no root before n contains the point.
 use Prim.Native.Nat.{◌-◌}
-use native.Mathlib.Omega.{arith}
-use native.Mathlib.Numerals.{add-one}
 use Rattle.dimension.specs.Sizes.{axes_of}
-use Rattle.dimension.specs.Laws.{axes_dimension}
-use Rattle.ways.specs.Starts.{Searching, search_start, at_root_n, search_few, search_end, search_next}
-use borrow.Author.Rules.{rules}
+use Rattle.ways.specs.Starts.{Searching}
 use Rattle.ways.proofs.first_root.Given as goal
 
 abbrev pub invariant-loop-dim : goal.invariant-loop-dim

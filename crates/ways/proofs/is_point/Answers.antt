@@ -1,9 +1,8 @@
 -- `is_point` meets its contract: the coordinates before i are in the cube.
-use Prim.Native.Nat.{◌-◌}
 use native.Mathlib.Omega.{arith}
 use native.Mathlib.Numerals.{add-one}
 use Rattle.dimension.specs.Laws.{axes_range}
-use Rattle.ways.specs.Starts.{Testing, test_start, test_length, test_outside, test_end, test_next}
+use Rattle.ways.specs.Starts.{test_start, test_length, test_outside, test_end, test_next}
 use borrow.Author.Rules.{rules}
 use Rattle.ways.proofs.is_point.Goals as goal
 

@@ -2,7 +2,6 @@
 use mathlib.Core.Path.{◌∙◌}
 use Rattle.dimension.specs.Laws.{axes_dimension}
 use Rattle.ways.specs.Starts.{first_side}
-use borrow.Author.Rules.{rules}
 use Rattle.ways.proofs.side.Goals as goal
 
 pub returns : goal.returns

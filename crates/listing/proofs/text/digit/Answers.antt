@@ -1,10 +1,8 @@
 -- `digit` meets its contract.
 use mathlib.Core.Path.{refl}
-use Prim.Native.Nat.{◌-◌}
 use native.Mathlib.Omega.{arith}
 use borrow.Author.Tests.{lt-ltb, le-ltb}
 use Rattle.listing.specs.Texts.{digit}
-use borrow.Author.Rules.{rules}
 use Rattle.listing.proofs.text.digit.Goals as goal
 
 pub returns-then-n-lt10 : goal.returns-then-n-lt10

@@ -1,8 +1,6 @@
 -- `put` meets its contract.
 use mathlib.Core.Path.{refl, ◌∙◌}
-use Prim.Native.Nat.{◌-◌}
 use Rattle.common.specs.Putting.{put_copy}
-use borrow.Author.Rules.{rules}
 use Rattle.listing.proofs.text.put.Goals as goal
 
 pub returns : goal.returns

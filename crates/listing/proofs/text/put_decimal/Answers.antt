@@ -1,10 +1,9 @@
 -- `put_decimal` meets its contract: the digits that `io::decimal` makes are the number's.
 use mathlib.Core.Path.{◌∙◌, subst}
-use Prim.Native.Nat.{ℕ, ◌-◌}
+use Prim.Native.Nat.{ℕ}
 use mathlib.Core.List.{List}
 use Rattle.listing.specs.Digits.{decimal_is}
 use Rattle.common.specs.Putting.{Puts}
-use borrow.Author.Rules.{rules}
 use Rattle.listing.proofs.text.put_decimal.Goals as goal
 
 pub put-requires : goal.put-requires

@@ -1,9 +1,7 @@
 -- `put_hex` meets its contract. The loop keeps: the bytes from i on are left.
-use Prim.Native.Nat.{◌-◌}
 use native.Mathlib.Omega.{arith}
-use lib.ListN.{length, length-set}
-use Rattle.listing.specs.Digits.{Hexing, hexing_start, hexing_room, hexing_next, hexing_end}
-use borrow.Author.Rules.{rules}
+use lib.ListN.{length-set}
+use Rattle.listing.specs.Digits.{hexing_start, hexing_room, hexing_next, hexing_end}
 use Rattle.listing.proofs.text.put_hex.Goals as goal
 
 pub loop-i-init : goal.loop-i-init

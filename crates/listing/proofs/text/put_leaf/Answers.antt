@@ -1,6 +1,5 @@
 -- `put_leaf` meets its contract: four texts, one behind the other.
-use Rattle.listing.specs.Lines.{LeafLine, leaf_fits}
-use borrow.Author.Rules.{rules}
+use Rattle.listing.specs.Lines.{leaf_fits}
 use Rattle.listing.proofs.text.put_leaf.Goals as goal
 
 pub put_decimal-at-requires : goal.put_decimal-at-requires

@@ -1,7 +1,5 @@
 -- `put_line` meets its contract: three texts, one behind the other.
-use Prim.Native.Nat.{◌-◌}
-use Rattle.listing.specs.Lines.{NumberLine, number_fits}
-use borrow.Author.Rules.{rules}
+use Rattle.listing.specs.Lines.{number_fits}
 use Rattle.listing.proofs.text.put_line.Goals as goal
 
 pub put-at-requires : goal.put-at-requires

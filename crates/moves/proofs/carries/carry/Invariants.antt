@@ -1,8 +1,6 @@
 -- `carry` meets its contract. The loop keeps: the orthants from `start` to t are flipped.
 use Prim.Native.Nat.{◌-◌, ◌≤◌, ◌<◌}
-use native.Mathlib.Omega.{arith}
-use Rattle.moves.specs.Carrying.{Flips, flips_none, flips_next, flips_join}
-use borrow.Author.Rules.{rules}
+use Rattle.moves.specs.Carrying.{Flips}
 use Rattle.moves.proofs.carries.carry.Given as goal
 
 abbrev pub invariant-loop-t : goal.invariant-loop-t

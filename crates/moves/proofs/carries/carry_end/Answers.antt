@@ -1,7 +1,6 @@
 -- `carry_end` meets its contract: one of the last four stops the carry, or the loop finds the one that does. It keeps: every orthant
 -- from `end` on is passed.
-use Rattle.bisection.specs.Codes.{axis, minus}
-use Rattle.moves.specs.Carrying.{Running, running_next, running_stopped, running_out}
+use Rattle.moves.specs.Carrying.{running_next, running_stopped, running_out}
 use Rattle.moves.specs.CarryWords.{ends_four, running_four}
 use borrow.Author.Rules.{rules}
 use Rattle.moves.proofs.carries.carry_end.Goals as goal

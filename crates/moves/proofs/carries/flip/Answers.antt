@@ -1,6 +1,5 @@
 -- `flip` meets its contract: the shifted bit fits a byte, and xor flips it alone.
 use Rattle.moves.specs.CarryWords.{flipped_as}
-use borrow.Author.Rules.{rules}
 use Rattle.moves.proofs.carries.flip.Goals as goal
 
 pub returns : goal.returns

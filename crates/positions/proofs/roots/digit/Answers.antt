@@ -1,7 +1,6 @@
 -- `digit` meets its contract.
 use mathlib.Core.Path.{refl}
 use Rattle.positions.specs.RootTable.{root_words, root_digit}
-use borrow.Author.Rules.{rules}
 use Rattle.positions.proofs.roots.digit.Goals as goal
 
 pub returns : goal.returns

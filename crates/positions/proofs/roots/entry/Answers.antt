@@ -2,7 +2,6 @@
 use mathlib.Core.Path.{◌∙◌}
 use native.Mathlib.Omega.{arith}
 use Rattle.positions.specs.RootTable.{row_under, row_is}
-use borrow.Author.Rules.{rules}
 use Rattle.positions.proofs.roots.entry.Goals as goal
 
 pub overflow_add-first_row : goal.overflow_add-first_row

@@ -1,12 +1,10 @@
 -- `copy_front` meets its contract. The loop keeps: the places before i are copied, or all up to the last four.
-use mathlib.Core.Path.{◌∙◌}
 use Prim.Native.Nat.{◌+◌, ◌-◌, ◌≤◌}
 use native.Mathlib.Omega.{arith}
-use Rattle.dimension.specs.Sizes.{most_axes, halvings, longest_of_all}
+use Rattle.dimension.specs.Sizes.{most_axes, halvings}
 use Rattle.dimension.specs.Laws.{longest_is}
 use Rattle.entries.specs.Walks.{place_no_later}
-use Rattle.steps.specs.Copying.{Fronted, fronted_none, fronted_next, fronted_last}
-use borrow.Author.Rules.{rules}
+use Rattle.steps.specs.Copying.{fronted_none, fronted_next, fronted_last}
 use Rattle.steps.proofs.buffers.copy_front.Goals as goal
 
 pub overflow_sub-last : goal.overflow_sub-last

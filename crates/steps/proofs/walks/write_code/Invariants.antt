@@ -1,12 +1,9 @@
 -- `write_code` meets its contract. The loop keeps: the entries are those of the name t steps down the path, and its orthants are
 -- written.
-use mathlib.Core.Path.{refl, ◌∙◌}
 use Prim.Native.Nat.{◌-◌}
-use native.Mathlib.Omega.{arith}
-use lib.ListN.{length, length-set}
+use lib.ListN.{length}
 use Rattle.fours.specs.Laws.{four_of}
-use Rattle.steps.specs.Descents.{Falling, code_two, code_entries, code_headed, fall_none, fall_size, fall_some, fall_few, fall_room, fall_next, code_over, code_written}
-use borrow.Author.Rules.{rules}
+use Rattle.steps.specs.Descents.{Falling}
 use Rattle.steps.proofs.walks.write_code.Given as goal
 
 abbrev pub invariant-loop-t : goal.invariant-loop-t

@@ -1,9 +1,7 @@
 -- `write_path` meets its contract. The loop keeps: the rest of the way up gives the root, and the path with the steps already
 -- written.
 use Rattle.entries.specs.Words.{bytes_of}
-use Rattle.steps.specs.Climbs.{Rising, rise_boxes, rise_place, rise_room, rise_some, rise_ready, rise_write, rise_next}
-use Rattle.steps.specs.Ascents.{path_entries, path_room, path_rises, path_stands}
-use borrow.Author.Rules.{rules}
+use Rattle.steps.specs.Climbs.{Rising}
 use Rattle.steps.proofs.walks.write_path.Given as goal
 
 abbrev pub invariant-loop-t : goal.invariant-loop-t
