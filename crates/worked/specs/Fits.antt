@@ -1,5 +1,5 @@
 -- Where an entry is done, the bytes that it answers stand at the front of the lent buffer.
-use Rattle.std.specs.Prelude.{◌≡◌, List, ◌++◌, ℕ, ◌≤◌, length, take, drop}
+use Rattle.std.specs.Prelude.{◌≡◌, List, ℕ, ◌≤◌, length, take, drop}
 use Rattle.std.proofs.Common.{sym, ap, ◌∙◌, arith, length-append, length-take, length-take-le}
 use Rattle.io.specs.Counts.{IsPrefixLen}
 use Rattle.codes.specs.declared.Written.{Written}
