@@ -1,7 +1,7 @@
 -- Crossing a facet. A reader must believe Outcome; the rest is checked.
 -- What the entry answers, for every input: the contract, to be read beside document 01.
 pub mod Outcome
--- What the proofs of the functions use.
+-- What the contracts of the functions below the entry say; the laws of the same names stand in proofs/.
 pub mod Unpacking
 pub mod Answers
 pub mod Landing

@@ -1,6 +1,6 @@
 -- `answer` meets its contract: a refusal alone, or the place, the length, and the new vertex as the code at the front gives it.
 use mathlib.Core.Path.{refl}
-use Rattle.crossing.specs.Landing.{answer_bare, answer_count, answer_boxed, answer_vertex, answer_whole}
+use Rattle.crossing.proofs.LandingLaws.{answer_bare, answer_count, answer_boxed, answer_vertex, answer_whole}
 use borrow.Author.Rules.{rules}
 use Rattle.crossing.proofs.answer.Goals as goal
 

@@ -1,6 +1,6 @@
 -- `cross` meets its contract: the code's own refusal comes first, then what the crossing's number says.
-use Rattle.crossing.specs.Answers.{cross_own}
-use Rattle.crossing.specs.Landing.{lands}
+use Rattle.crossing.proofs.AnswerLaws.{cross_own}
+use Rattle.crossing.proofs.LandingLaws.{lands}
 use borrow.Author.Rules.{rules}
 use Rattle.crossing.proofs.cross.Goals as goal
 

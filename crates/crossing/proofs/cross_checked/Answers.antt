@@ -1,5 +1,5 @@
 -- `cross_checked` meets its contract: what the crossing's number says.
-use Rattle.crossing.specs.Landing.{lands}
+use Rattle.crossing.proofs.LandingLaws.{lands}
 use borrow.Author.Rules.{rules}
 use Rattle.crossing.proofs.cross_checked.Goals as goal
 

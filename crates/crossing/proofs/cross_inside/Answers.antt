@@ -1,6 +1,6 @@
 -- `cross_inside` meets its contract: refusal 11, or the code copied, with its entries rearranged; there is always a cell across.
 use native.Mathlib.Omega.{arith}
-use Rattle.crossing.specs.Staying.{staying_room, staying_two, staying_four, staying_put, staying_few, staying_long, staying_most, staying_short, staying_movable, staying_done}
+use Rattle.crossing.proofs.StayingLaws.{staying_room, staying_two, staying_four, staying_put, staying_few, staying_long, staying_most, staying_short, staying_movable, staying_done}
 use borrow.Author.Rules.{rules}
 use Rattle.crossing.proofs.cross_inside.Goals as goal
 

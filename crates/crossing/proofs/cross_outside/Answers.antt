@@ -2,7 +2,7 @@
 use mathlib.Core.Path.{◌∙◌}
 use lib.ListN.{length-set}
 use native.Mathlib.Omega.{arith}
-use Rattle.crossing.specs.Leaving.{leaving_room, leaving_long, leaving_most, leaving_at, leaving_few, leaving_some, leaving_face, leaving_short, leaving_done}
+use Rattle.crossing.proofs.LeavingLaws.{leaving_room, leaving_long, leaving_most, leaving_at, leaving_few, leaving_some, leaving_face, leaving_short, leaving_done}
 use borrow.Author.Rules.{rules}
 use Rattle.crossing.proofs.cross_outside.Goals as goal
 

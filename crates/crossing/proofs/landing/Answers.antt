@@ -1,9 +1,9 @@
 -- `landing` meets its contract: the row of the facet, which leaves the box or stays in it.
 use mathlib.Core.Path.{refl}
 use native.Mathlib.Omega.{arith}
-use Rattle.crossing.specs.Landing.{lands_step}
-use Rattle.crossing.specs.Leaving.{facing_some, facing_whole, facing_few, facing_at, leaving}
-use Rattle.crossing.specs.Staying.{staying}
+use Rattle.crossing.proofs.LandingLaws.{lands_step}
+use Rattle.crossing.proofs.LeavingLaws.{facing_some, facing_whole, facing_few, facing_at, leaving}
+use Rattle.crossing.proofs.StayingLaws.{staying}
 use borrow.Author.Rules.{rules}
 use Rattle.crossing.proofs.landing.Goals as goal
 

@@ -1,5 +1,5 @@
 -- `lows_across` meets its contract: the orthants are the same where the crossing stays in its box.
-use Rattle.crossing.specs.Landing.{boxed_same}
+use Rattle.crossing.proofs.LandingLaws.{boxed_same}
 use borrow.Author.Rules.{rules}
 use Rattle.crossing.proofs.lows_across.Goals as goal
 

@@ -1,0 +1,145 @@
+-- The ways out of a crossing, each with what is known there; and a change of a name's entries where more bytes follow them.
+use Rattle.std.specs.Prelude.{◌≡◌, refl, true, false, ◌≢◌, ℕ, suc, ◌+◌, ◌-◌, ◌≤◌, ◌<◌, T, length, get_or, take, drop, set}
+use Rattle.std.proofs.Math.Path.{sym}
+use Rattle.std.proofs.Common.{ap, ◌∙◌, subst, arith, length-set, take_at, drop_at}
+use mathlib.Core.List.{List, ◌∷◌, ◌++◌, append_assoc}
+use Rattle.std.proofs.Math.ListN.{get_or-append}
+use Rattle.std.proofs.lemmas.List.{set-append_left}
+use Rattle.std.proofs.Math.Seq.{paste}
+use Rattle.bisection.specs.Cells.{Cell, vertex, cell_of}
+use Rattle.bisection.specs.Codes.{bytes, dimension_of, depth_of, entries_of, orthants_of, parts_of, negated}
+use Rattle.bisection.specs.Refusals.{done, refused_step, refused_face, refused_short, code_refusal}
+use Rattle.bisection.specs.Facets.{IsCell, Shares}
+use Rattle.bisection.proofs.Theorems.CodePaths.{root_of, path_of}
+use Rattle.bisection.proofs.Theorems.CodeCells.{code_cell, cell_passes, one_cell}
+use Rattle.bisection.proofs.Theorems.Table.{Move, exchanged, negated_at, entries_by}
+use Rattle.bisection.proofs.Theorems.Crossing.Sound.{Allowed, a_swap, a_near, a_far, a_left, a_right, a_trade}
+use Rattle.bisection.proofs.Theorems.Crossing.Rearranged.{exchanged_length, negated_at_length}
+use Rattle.bisection.proofs.Theorems.Neighbour.{is_blocked, table_code, table_place, blocked_is_face, blocked_alone, face_is_blocked, across_unblocked}
+use Rattle.bisection.proofs.Theorems.Entries.{turned_append, unturned_append}
+use Rattle.entries.specs.Passed.{Checked, checked}
+use Rattle.crossing.specs.declared.Crossed.{Crossed}
+use Rattle.corners.specs.Vertices.{vertex_in}
+use Rattle.crossing.specs.Outcome.{by_axes, Refuses, Walled, Beyond, Meets, wall, short, crossed, Crosses}
+use Rattle.crossing.specs.Answers.{Bare, Whole}
+
+-- the cell across has a code of the same length
+pub shares_size : {i : ℕ} {code code' : List ℕ} → Shares i code code' → length code' ≡ length code
+shares_size {i} {code} {code'} s = (checked code' (cell_passes s.cell')).size ∙ rw (← s.dimension, ← s.depth) (sym (checked code (cell_passes s.cell)).size)
+
+refuses : {number : ℕ} {before : List ℕ} {r : Crossed} → Bare number r → Refuses number before r before
+refuses f = record { number = f.number; place = f.place; size = f.size; vertex = f.vertex; kept = refl }
+
+-- what the table's answer says of a code that passes
+module _ (code : List ℕ) (p : code_refusal code ≡ done) (i : ℕ) (il : i ≤ dimension_of code) where
+  cell : IsCell code (cell_of (root_of code) (path_of code))
+  cell = code_cell code p
+
+  walled : is_blocked code i ≡ true → Walled code i
+  walled e = record { vs = cell_of (root_of code) (path_of code); cell = cell; face = blocked_is_face cell i il e; alone = blocked_alone cell i il e }
+
+  beyond : is_blocked code i ≡ false → Beyond code i (table_code code i) (table_place code i)
+  beyond e = record {
+    vs = cell_of (root_of code) (path_of code);
+    cell = cell;
+    free = λ w. subst T (sym (face_is_blocked cell i il w) ∙ e) tt;
+    across = across_unblocked cell i il e;
+  }
+
+  pub table_size : is_blocked code i ≡ false → length (table_code code i) ≡ length code
+  table_size e = shares_size (beyond e).across.shares
+
+  -- the place is one of four bits
+  pub table_place_is : is_blocked code i ≡ false → table_place code i ≤ 4
+  table_place_is e = omega (arith, (beyond e).across.place, (checked code p).range.few)
+
+  -- where the code across stands at the front: it passes, and the place is one of its vertices'
+  module _ (e : is_blocked code i ≡ false) (rest : List ℕ) {after : List ℕ} (q : after ≡ table_code code i ++ rest) where
+    pub table_front : take (length code) after ≡ table_code code i
+    table_front = ap (take (length code)) q ∙ take_at (table_code code i) rest (length code) (table_size e)
+
+    pub front_passes : code_refusal (take (length code) after) ≡ done
+    front_passes = rw table_front (cell_passes (beyond e).across.shares.cell')
+
+    pub front_place : table_place code i ≤ dimension_of (take (length code) after)
+    front_place = rw (table_front, ← (beyond e).across.shares.dimension) (beyond e).across.place
+
+-- the ways out, in document 01's order
+module _ (code before : List ℕ) (i : ℕ) {r : Crossed} where
+  pub cross_own : {x : ℕ} → x ≡ code_refusal code → x ≢ done → Bare x r → Crosses code i before r before
+  cross_own e n f = record {
+    own = λ q. subst (λ (x : ℕ). Refuses x before r before) e (refuses f);
+    above = λ p l. absurd (n (e ∙ p));
+    meets = λ p l. absurd (n (e ∙ p));
+  }
+
+  -- as the code has the code's refusal, its dimension and the facet
+  pub cross_step : {x d j : ℕ} → x ≡ code_refusal code → x ≡ done → d ≡ dimension_of code → j ≡ i → d < j → Bare refused_step r → Crosses code i before r before
+  cross_step e z q t l f = record { own = λ n. absurd (n (sym e ∙ z)); above = λ p m. refuses f; meets = λ p m. absurd (omega arith) }
+
+  module _ (p : code_refusal code ≡ done) (il : i ≤ dimension_of code) where
+    met : {after : List ℕ} → Meets code i before r after → Crosses code i before r after
+    met m = record { own = λ n. absurd (n p); above = λ p l. absurd (omega arith); meets = λ p l. m }
+
+    pub cross_face : is_blocked code i ≡ true → Bare refused_face r → Crosses code i before r before
+    cross_face e f = met (wall (walled code p i il e) (refuses f))
+
+    pub cross_short : is_blocked code i ≡ false → length before < length code → Bare refused_short r → Crosses code i before r before
+    cross_short e l f = met (short (table_code code i) (table_place code i) (beyond code p i il e) (omega (arith, table_size code p i il e)) (refuses f))
+
+    pub cross_done : (e : is_blocked code i ≡ false) {after : List ℕ} → after ≡ table_code code i ++ drop (length code) before → length code ≤ length before
+        → Whole (length code) (table_place code i) after r → Crosses code i before r after
+    cross_done e {after} q l w = met (crossed (table_code code i) (table_place code i) (beyond code p i il e) (omega (arith, size))
+        (record {
+          number = w.number;
+          place = w.place;
+          size = w.size ∙ sym size;
+          vertex = w.vertex ∙ ap by_axes (ap (λ (l : List ℕ). vertex_in l (table_place code i)) (table_front code p i il e (drop (length code) before) q)
+              ∙ ap (λ (ws : Cell). vertex ws (table_place code i)) (one_cell (code_cell (table_code code i) (cell_passes there)) there));
+          written = q ∙ ap (λ (n : ℕ). table_code code i ++ drop n before) (sym size);
+        }))
+      where
+        size : length (table_code code i) ≡ length code
+        size = table_size code p i il e
+
+        there : IsCell (table_code code i) (beyond code p i il e).across.shares.ws
+        there = (beyond code p i il e).across.shares.cell'
+
+-- a code that passes with other entries, before more bytes
+pub code_pasted : (code : List ℕ) (p : code_refusal code ≡ done) {d : ℕ} → d ≡ dimension_of code → (es rest : List ℕ)
+    → paste (code ++ rest) 2 es d ≡ bytes (dimension_of code) (depth_of code) (record { entries = take d es; orthants = orthants_of code }) ++ rest
+unfolding bytes
+code_pasted code p {d} a es rest = ap (λ (l : List ℕ). paste (l ++ rest) 2 es d) k.good.is
+    ∙ ap (λ (l : List ℕ). (dimension_of code ∷ depth_of code ∷ take d es) ++ l) behind
+    ∙ ap (λ (l : List ℕ). dimension_of code ∷ depth_of code ∷ l) (sym (append_assoc (take d es) (orthants_of code) rest))
+  where
+    k : Checked code
+    k = checked code p
+
+    two : 2 + d ≡ suc (suc d)
+    two = omega arith
+
+    behind : drop (2 + d) (bytes (dimension_of code) (depth_of code) (parts_of code) ++ rest) ≡ orthants_of code ++ rest
+    behind = unfold bytes parts_of in rw (two, append_assoc (entries_of code) (orthants_of code) rest)
+        (drop_at (entries_of code) (orthants_of code ++ rest) d (unfold parts_of in k.good.passes.signed.size ∙ sym a))
+
+-- a change of the entries goes no further
+negated_append : (at : ℕ) (es rest : List ℕ) → at < length es → negated_at at (es ++ rest) ≡ negated_at at es ++ rest
+unfolding negated_at
+negated_append at es rest h = rw (get_or-append es rest 0 at h) (set-append_left es rest at (negated (get_or es at 0)) h)
+
+exchanged_append : (t u : ℕ) (es rest : List ℕ) → t < length es → u < length es → exchanged t u (es ++ rest) ≡ exchanged t u es ++ rest
+unfolding exchanged
+exchanged_append t u es rest h l = rw (get_or-append es rest 0 t h, get_or-append es rest 0 u l, set-append_left es rest t (get_or es u 0) h)
+    (set-append_left (set es t (get_or es u 0)) rest u (get_or es t 0) (rw (length-set es t (get_or es u 0)) l))
+
+pub entries_append : {d k : ℕ} {m : Move} → Allowed d k m → 1 ≤ k → k ≤ d → (es rest : List ℕ) → length es ≡ d → entries_by d k m (es ++ rest) ≡ entries_by d k m es ++ rest
+unfolding entries_by
+entries_append (a_swap {i} h l) k1 kd es rest e = exchanged_append (i - 1) i es rest (omega arith) (omega arith)
+entries_append {d} a_near k1 kd es rest e = negated_append (d - 1) es rest (omega arith)
+entries_append (a_far q) k1 kd es rest e = negated_append 0 es rest (omega arith)
+entries_append {d} {k} (a_left q) k1 kd es rest e = turned_append (suc k) es rest (omega arith) (omega arith)
+entries_append {d} {k} (a_right q) k1 kd es rest e = unturned_append k es rest (omega arith)
+entries_append {d} {k} (a_trade q) k1 kd es rest e =
+    rw (exchanged_append 0 k es rest (omega arith) (omega arith), negated_append k (exchanged 0 k es) rest (omega (arith, exchanged_length 0 k es)))
+    (negated_append 0 (negated_at k (exchanged 0 k es)) rest (omega (arith, exchanged_length 0 k es, negated_at_length k (exchanged 0 k es))))
