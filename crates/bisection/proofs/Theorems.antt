@@ -29,8 +29,6 @@ pub mod OneCode
 pub mod CodeCells
 -- The cell of a path with one step more is that child of the path's cell.
 pub mod CellChildren
--- The rule table of a crossing, on names.
-pub mod Table
 -- The cell across a facet: one axis at a time, in units of half a side.
 pub mod Crossing
 -- The crossing theorem: the cell across a facet is the one of the table, and there is no other.

@@ -16,3 +16,5 @@ pub mod Weights
 pub mod Slopes
 -- The definitions computed on small cases: the document's quoted orthants, and how many codes pass.
 pub mod Computed
+-- What the theorems speak of beside them; they stand in the modules of the same names in proofs/.
+pub mod Theorems

@@ -8,8 +8,10 @@ use Rattle.dimension.specs.Sizes.{points_length}
 use Rattle.bisection.specs.Cells.{cell_of, cell_bytes}
 use Rattle.bisection.specs.Codes.{dimension_of}
 use Rattle.bisection.specs.Refusals.{done, refused_short, code_refusal}
-use Rattle.bisection.proofs.Theorems.Ladders.{first_is, all_hold, holds, fails, past, stops}
-use Rattle.bisection.proofs.Theorems.CodePaths.{root_of, path_of, code_path}
+use Rattle.bisection.specs.Theorems.Ladders.{all_hold, holds, fails, past, stops}
+use Rattle.bisection.proofs.Theorems.Ladders.{first_is}
+use Rattle.bisection.specs.Theorems.CodePaths.{root_of, path_of}
+use Rattle.bisection.proofs.Theorems.CodePaths.{code_path}
 use Rattle.codes.specs.declared.Written.{Written}
 use Rattle.codes.specs.Outcomes.{Vertices, vertices_refusal}
 use Rattle.codes.specs.Writing.{refused_answers, done_answers}

@@ -7,9 +7,12 @@ use Rattle.std.proofs.lemmas.Bool.{lt-leb}
 use Rattle.dimension.specs.Sizes.{greatest_depth, code_length}
 use Rattle.bisection.specs.Codes.{step, bytes, dimension_of, depth_of, parts_of}
 use Rattle.bisection.specs.Refusals.{done, refused_step, refused_deepest, refused_short, code_refusal}
-use Rattle.bisection.proofs.Theorems.Ladders.{first_is, all_hold, holds, fails, past, stops}
-use Rattle.bisection.proofs.Theorems.Passing.{Passes, step_passes}
-use Rattle.bisection.proofs.Theorems.CodePaths.{child_code, root_of, path_of, code_path, child_code_is}
+use Rattle.bisection.specs.Theorems.Ladders.{all_hold, holds, fails, past, stops}
+use Rattle.bisection.proofs.Theorems.Ladders.{first_is}
+use Rattle.bisection.specs.Theorems.Passing.{Passes}
+use Rattle.bisection.proofs.Theorems.Passing.{step_passes}
+use Rattle.bisection.specs.Theorems.CodePaths.{child_code, root_of, path_of}
+use Rattle.bisection.proofs.Theorems.CodePaths.{code_path, child_code_is}
 use Rattle.entries.specs.Passed.{Checked, checked}
 use Rattle.steps.specs.Relatives.{ChildReady}
 use Rattle.codes.specs.declared.Written.{Written}

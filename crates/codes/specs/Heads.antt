@@ -9,7 +9,8 @@ use Rattle.dimension.specs.Sizes.{is_dimension, halvings, greatest_depth, code_l
 use Rattle.dimension.specs.Laws.{Dimension, dimension, box_in, split_range}
 use Rattle.bisection.specs.Codes.{dimension_of, depth_of, entries_of, orthants_of}
 use Rattle.bisection.specs.Refusals.{done, refused_dimension, refused_depth, refused_length, refused_permutation, refused_orthant, refused_sign, permutes, orthants_fit, signs_own, head_refusal, length_of, body_refusal, code_refusal}
-use Rattle.bisection.proofs.Theorems.Ladders.{first_is, all_hold, holds, fails, past, stops, held_at}
+use Rattle.bisection.specs.Theorems.Ladders.{all_hold, holds, fails, past, stops}
+use Rattle.bisection.proofs.Theorems.Ladders.{first_is, held_at}
 use Rattle.entries.specs.SignMasks.{AxesWithin, permuted_axes}
 use Rattle.entries.specs.Walks.{permutes_same, own_byte, signs_by, signs_by_is}
 use Rattle.entries.specs.Words.{NoneBehind}

@@ -9,10 +9,14 @@ use Rattle.std.proofs.lemmas.Bool.{lt-leb}
 use Rattle.dimension.specs.Sizes.{code_length}
 use Rattle.bisection.specs.Codes.{bytes, dimension_of, depth_of, parts_of, IsCodeOf}
 use Rattle.bisection.specs.Refusals.{done, refused_root, refused_short, code_refusal}
-use Rattle.bisection.proofs.Theorems.Ladders.{first_is, all_hold, holds, fails, past, stops}
-use Rattle.bisection.proofs.Theorems.Passing.{Passes, last_step, parent_name, parent_passes}
-use Rattle.bisection.proofs.Theorems.Paths.{path_suc, path_to}
-use Rattle.bisection.proofs.Theorems.CodePaths.{parent_code, code_path, root_of, path_of, parent_code_is}
+use Rattle.bisection.specs.Theorems.Ladders.{all_hold, holds, fails, past, stops}
+use Rattle.bisection.proofs.Theorems.Ladders.{first_is}
+use Rattle.bisection.specs.Theorems.Passing.{Passes, last_step, parent_name}
+use Rattle.bisection.proofs.Theorems.Passing.{parent_passes}
+use Rattle.bisection.specs.Theorems.Paths.{path_to}
+use Rattle.bisection.proofs.Theorems.Paths.{path_suc}
+use Rattle.bisection.specs.Theorems.CodePaths.{parent_code, root_of, path_of}
+use Rattle.bisection.proofs.Theorems.CodePaths.{code_path, parent_code_is}
 use Rattle.entries.specs.Passed.{Checked, checked}
 use Rattle.codes.specs.declared.Written.{Written}
 use Rattle.codes.specs.Outcomes.{parent_refusal, Parent, ParentOf}

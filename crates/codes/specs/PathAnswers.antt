@@ -10,11 +10,13 @@ use Rattle.dimension.specs.Laws.{axes_dimension}
 use Rattle.bisection.specs.Roots.{GoodRoot}
 use Rattle.bisection.specs.Codes.{axis, minus, bytes, code_of, IsCodeOf, dimension_of, depth_of}
 use Rattle.bisection.specs.Refusals.{done, refused_dimension, refused_depth, refused_permutation, refused_step, refused_short, each, permutes, code_refusal, is_root, is_path}
-use Rattle.bisection.proofs.Theorems.Ladders.{first_is, all_hold, holds, fails, past, stops}
-use Rattle.bisection.proofs.Theorems.Entries.{Signed}
+use Rattle.bisection.specs.Theorems.Ladders.{all_hold, holds, fails, past, stops}
+use Rattle.bisection.proofs.Theorems.Ladders.{first_is}
+use Rattle.bisection.specs.Theorems.Entries.{Signed}
 use Rattle.bisection.proofs.Theorems.Paths.{plain_axis}
 use Rattle.bisection.proofs.Theorems.Checked.{both, each_at, permutes_signed}
-use Rattle.bisection.proofs.Theorems.CodePaths.{name_passes, code_path, root_of, path_of, length_root, length_path_of}
+use Rattle.bisection.specs.Theorems.CodePaths.{root_of, path_of}
+use Rattle.bisection.proofs.Theorems.CodePaths.{name_passes, code_path, length_root, length_path_of}
 use Rattle.codes.specs.declared.Written.{Written}
 use Rattle.codes.specs.declared.PathWritten.{PathWritten}
 use Rattle.codes.specs.Outcomes.{path_refusal, PathToCode, to_path_refusal, CodeToPath}

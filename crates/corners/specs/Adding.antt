@@ -7,7 +7,8 @@ use Prim.Native.Nat.{ℕ, zero, suc, ◌+◌, ◌≤◌, ◌<◌}
 use Rattle.std.proofs.Math.Decide.{dec_lt, dec_le, ℕ_discrete}
 use Rattle.std.proofs.Math.ListN.{get_or-eq_default}
 use Rattle.bisection.specs.Codes.{axis}
-use Rattle.bisection.proofs.Theorems.Entries.{Signed, Stands, stands}
+use Rattle.bisection.specs.Theorems.Entries.{Signed, Stands}
+use Rattle.bisection.proofs.Theorems.Entries.{stands}
 use Rattle.entries.specs.Masks.{axis_none}
 use Rattle.corners.specs.PointWords.{on_axis}
 

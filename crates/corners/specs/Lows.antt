@@ -12,8 +12,9 @@ use Rattle.std.proofs.Math.ListN.{length, get_or}
 use Rattle.dimension.specs.Sizes.{halvings, side_after}
 use Rattle.dimension.specs.Laws.{side_half, side_first, cube_two_bytes, halvings_few}
 use Rattle.bisection.specs.Codes.{high}
-use Rattle.bisection.proofs.Theorems.Drawn.{box_low}
-use Rattle.bisection.proofs.Theorems.Crossing.Boxes.{box_at, box_low_box_at}
+use Rattle.bisection.specs.Theorems.Drawn.{box_low}
+use Rattle.bisection.specs.Theorems.Crossing.Boxes.{box_at}
+use Rattle.bisection.proofs.Theorems.Crossing.Boxes.{box_low_box_at}
 use Rattle.entries.specs.Words.{word_of, four_from}
 use Rattle.corners.specs.PointWords.{in_word, ones, in_same, in_times, in_small, in_low}
 

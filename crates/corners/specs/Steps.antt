@@ -8,7 +8,7 @@ use Rattle.std.proofs.lemmas.Bool.{lt-leb}
 use Rattle.std.proofs.Math.Decide.{dec_le}
 use mir.Syntax.{w32, w64}
 use Rattle.std.proofs.lemmas.Int.{to_z-of_z, to_z_pos}
-use Rattle.bisection.proofs.Theorems.Axis.{closed}
+use Rattle.bisection.specs.Theorems.Axis.{closed}
 
 -- plus or minus so much
 unfoldable pub signed_step : ℕ → Bool → ℤ

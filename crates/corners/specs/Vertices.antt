@@ -13,10 +13,12 @@ use Rattle.dimension.specs.Laws.{Dimension, box_in, cube_two_bytes, side_first, 
 use Rattle.bisection.specs.Cells.{Point, Cell, coordinate, vertex, cell_of}
 use Rattle.bisection.specs.Codes.{axis, minus, high, IsCodeOf, dimension_of, depth_of, entries_of, orthants_of, parts_of}
 use Rattle.bisection.specs.Refusals.{done, code_refusal}
-use Rattle.bisection.proofs.Theorems.Axis.{closed, closed_near}
-use Rattle.bisection.proofs.Theorems.Entries.{Signed, Stands}
-use Rattle.bisection.proofs.Theorems.CodePaths.{root_of, path_of, code_path, dimension_of_code, depth_of_code, parts_of_code}
-use Rattle.bisection.proofs.Theorems.Drawn.{Drawn, Sized, box_low, along}
+use Rattle.bisection.specs.Theorems.Axis.{closed}
+use Rattle.bisection.proofs.Theorems.Axis.{closed_near}
+use Rattle.bisection.specs.Theorems.Entries.{Signed, Stands}
+use Rattle.bisection.specs.Theorems.CodePaths.{root_of, path_of}
+use Rattle.bisection.proofs.Theorems.CodePaths.{code_path, dimension_of_code, depth_of_code, parts_of_code}
+use Rattle.bisection.specs.Theorems.Drawn.{Drawn, Sized, box_low, along}
 use Rattle.bisection.proofs.Theorems.Geometry.{closed_form}
 use Rattle.entries.specs.Masks.{axis_none}
 use Rattle.entries.specs.Words.{bytes_of}

@@ -10,12 +10,13 @@ use Rattle.bisection.specs.Cells.{Cell, vertex, cell_of}
 use Rattle.bisection.specs.Codes.{bytes, dimension_of, depth_of, entries_of, orthants_of, parts_of, negated}
 use Rattle.bisection.specs.Refusals.{done, refused_step, refused_face, refused_short, code_refusal}
 use Rattle.bisection.specs.Facets.{IsCell, Shares}
-use Rattle.bisection.proofs.Theorems.CodePaths.{root_of, path_of}
+use Rattle.bisection.specs.Theorems.CodePaths.{root_of, path_of}
 use Rattle.bisection.proofs.Theorems.CodeCells.{code_cell, cell_passes, one_cell}
-use Rattle.bisection.proofs.Theorems.Table.{Move, exchanged, negated_at, entries_by}
-use Rattle.bisection.proofs.Theorems.Crossing.Sound.{Allowed, a_swap, a_near, a_far, a_left, a_right, a_trade}
+use Rattle.bisection.specs.Theorems.Table.{Move, exchanged, negated_at, entries_by}
+use Rattle.bisection.specs.Theorems.Crossing.Sound.{Allowed, a_swap, a_near, a_far, a_left, a_right, a_trade}
 use Rattle.bisection.proofs.Theorems.Crossing.Rearranged.{exchanged_length, negated_at_length}
-use Rattle.bisection.proofs.Theorems.Neighbour.{is_blocked, table_code, table_place, blocked_is_face, blocked_alone, face_is_blocked, across_unblocked}
+use Rattle.bisection.specs.Theorems.Neighbour.{is_blocked, table_code, table_place}
+use Rattle.bisection.proofs.Theorems.Neighbour.{blocked_is_face, blocked_alone, face_is_blocked, across_unblocked}
 use Rattle.bisection.proofs.Theorems.Entries.{turned_append, unturned_append}
 use Rattle.entries.specs.Passed.{Checked, checked}
 use Rattle.crossing.specs.declared.Crossed.{Crossed}

@@ -12,14 +12,7 @@ use Rattle.bisection.proofs.Theorems.CodeCells.{cell_passes, one_cell}
 use Rattle.bisection.proofs.Theorems.Neighbour.{across_determined, across_back}
 use Rattle.crossing.specs.declared.Crossed.{Crossed}
 use Rattle.crossing.specs.Outcome.{by_axes, Refuses, Gives, Walled, Beyond, Meets, wall, short, crossed, Crosses}
-
--- the same answer and the same buffer
-pub record Same (r : Crossed) (after : List ℕ) (r' : Crossed) (after' : List ℕ) : Type 0 where
-  pub refusal : r.refusal ≡ r'.refusal
-  pub place : r.place ≡ r'.place
-  pub size : r.length ≡ r'.length
-  pub vertex : r.vertex ≡ r'.vertex
-  pub buffer : after ≡ after'
+use Rattle.crossing.specs.Determined.{Back, Given, Same}
 
 -- one cell across, or none
 one : {code : List ℕ} {i : ℕ} {code' code'' : List ℕ} {j j' : ℕ} → i ≤ dimension_of code → Beyond code i code' j → Beyond code i code'' j' → (code' ≡ code'') × (j ≡ j')
@@ -74,16 +67,6 @@ determined {code} {i} {before} {r} {after} {r'} {after'} a b = go (ℕ_discrete 
     go (yes p) (yes l) = refuses_same (a.above p l) (b.above p l)
     go (yes p) (no l) = meets_same (omega arith) (a.meets p (omega arith)) (b.meets p (omega arith))
 
--- an answer that is done: the cell across, at the front of the buffer
-pub record Given (code : List ℕ) (i : ℕ) (before : List ℕ) (r : Crossed) (after : List ℕ) : Type 0 where
-  pub code' : List ℕ
-  pub facet : i ≤ dimension_of code
-  pub across : Across code i code' r.place
-  pub front : take r.length after ≡ code'
-  pub size : r.length ≡ length code'
-  pub vertex : (ws : Cell) → IsCell code' ws → r.vertex ≡ by_axes (vertex ws r.place)
-  pub fits : length code' ≤ length before
-
 pub given_done : {code : List ℕ} {i : ℕ} {before : List ℕ} {r : Crossed} {after : List ℕ} → Crosses code i before r after → r.refusal ≡ done → Given code i before r after
 given_done {code} {i} {before} {r} {after} a e = go (ℕ_discrete (code_refusal code) done) (dec_lt (dimension_of code) i)
   where
@@ -107,13 +90,6 @@ given_done {code} {i} {before} {r} {after} a e = go (ℕ_discrete (code_refusal 
     go (no n) l = absurd (never n (a.own n))
     go (yes p) (yes l) = absurd (never (omega arith) (a.above p l))
     go (yes p) (no l) = met (omega arith) (a.meets p (omega arith))
-
--- crossing back: into a buffer with room for the first code
-pub record Back (code : List ℕ) (i : ℕ) (r : Crossed) (after : List ℕ) : Type 0 where
-  pub refusal : r.refusal ≡ done
-  pub place : r.place ≡ i
-  pub vertex : (vs : Cell) → IsCell code vs → r.vertex ≡ by_axes (vertex vs i)
-  pub front : take r.length after ≡ code
 
 module _ {code : List ℕ} {i : ℕ} {before : List ℕ} {r : Crossed} {after : List ℕ} (a : Crosses code i before r after) (e : r.refusal ≡ done) where
   there : Given code i before r after

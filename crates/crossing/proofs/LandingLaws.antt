@@ -4,7 +4,7 @@ use Rattle.std.specs.Prelude.{◌≡◌, refl, true, false, List, ◌++◌, ℕ,
 use Rattle.std.proofs.Common.{sym, ap, ◌∙◌, subst, arith, length-append, length-drop, length-take-le}
 use Rattle.bisection.specs.Codes.{dimension_of, orthants_of}
 use Rattle.bisection.specs.Refusals.{done, refused_step, refused_face, refused_short, code_refusal}
-use Rattle.bisection.proofs.Theorems.Neighbour.{is_blocked, table_code, table_place}
+use Rattle.bisection.specs.Theorems.Neighbour.{is_blocked, table_code, table_place}
 use Rattle.corners.specs.PointWords.{point_word}
 use Rattle.corners.specs.Lows.{lows_in}
 use Rattle.corners.specs.Vertices.{vertex_in, code_dimension, code_sized, vertex_small}

@@ -15,8 +15,8 @@ use Rattle.dimension.specs.Sizes.{code_length, longest_of_all, split_place}
 use Rattle.bisection.specs.Codes.{axis, minus, negated, Name, bytes, dimension_of, depth_of, entries_of, orthants_of, parts_of}
 use Rattle.bisection.specs.Refusals.{done, refused_face, refused_short, code_refusal}
 use Rattle.bisection.proofs.Theorems.Entries.{axis_negated, minus_negated}
-use Rattle.bisection.proofs.Theorems.Table.{nearer, farther, move, move_of, new_at, new_place, next_own, negated_at, entries_by, orthants_by, blocked_by, blocked, across_name, runs_out, carried}
-use Rattle.bisection.proofs.Theorems.Neighbour.{is_blocked, table_code}
+use Rattle.bisection.specs.Theorems.Table.{nearer, farther, move, move_of, new_at, new_place, next_own, negated_at, entries_by, orthants_by, blocked_by, blocked, across_name, runs_out, carried}
+use Rattle.bisection.specs.Theorems.Neighbour.{is_blocked, table_code}
 use Rattle.entries.specs.Walks.{entry_at}
 use Rattle.entries.specs.Passed.{code_few, Checked, checked}
 use Rattle.steps.specs.Copying.{whole_front}

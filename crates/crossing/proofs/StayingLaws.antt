@@ -12,12 +12,13 @@ use Rattle.dimension.specs.Sizes.{code_length, longest_of_all, split_place}
 use Rattle.dimension.specs.Laws.{split_range}
 use Rattle.bisection.specs.Codes.{axis, minus, high, Name, bytes, dimension_of, depth_of, entries_of, orthants_of, parts_of}
 use Rattle.bisection.specs.Refusals.{done, refused_short, same_sign, own_minus, code_refusal}
-use Rattle.bisection.proofs.Theorems.Table.{swap, left, right, trade, move_of, new_place, next_own, entries_by, orthants_by, blocked_by, blocked, across_name}
+use Rattle.bisection.specs.Theorems.Table.{swap, left, right, trade, move_of, new_place, next_own, entries_by, orthants_by, blocked_by, blocked, across_name}
 use Rattle.bisection.proofs.Theorems.Checked.{parts_bytes}
 use Rattle.bisection.proofs.Theorems.Crossing.Moves.{view}
-use Rattle.bisection.proofs.Theorems.Crossing.Sound.{Allowed, allowed}
+use Rattle.bisection.specs.Theorems.Crossing.Sound.{Allowed}
+use Rattle.bisection.proofs.Theorems.Crossing.Sound.{allowed}
 use Rattle.bisection.proofs.Theorems.Crossing.Rearranged.{entries_length}
-use Rattle.bisection.proofs.Theorems.Neighbour.{is_blocked, table_code, table_place}
+use Rattle.bisection.specs.Theorems.Neighbour.{is_blocked, table_code, table_place}
 use Rattle.entries.specs.Walks.{own_byte}
 use Rattle.entries.specs.Passed.{code_few, Checked, checked}
 use Rattle.steps.specs.Copying.{whole_front}
@@ -39,7 +40,6 @@ staying code {x} {d} {k} {i} {j} e z axes split f h l w = record {
   split = split ∙ ap (λ (n : ℕ). split_place n (depth_of code)) axes;
   inside = omega (arith, last);
   first = λ q. less (start (f ∙ q));
-
 }
   where
     p : code_refusal code ≡ done

@@ -5,8 +5,8 @@ use mathlib.Core.List.{List}
 use Prim.Native.Nat.{ℕ, ◌≤◌, ◌<◌}
 use Rattle.bisection.specs.Codes.{axis, minus, dimension_of, depth_of, entries_of, orthants_of, parts_of}
 use Rattle.bisection.specs.Refusals.{done, code_refusal}
-use Rattle.bisection.proofs.Theorems.Table.{negated_at, across_name, runs_out, carried}
-use Rattle.bisection.proofs.Theorems.Neighbour.{is_blocked, table_place}
+use Rattle.bisection.specs.Theorems.Table.{negated_at, across_name, runs_out, carried}
+use Rattle.bisection.specs.Theorems.Neighbour.{is_blocked, table_place}
 
 -- the row: what the table says, told by the entry e against which the box moves and the place whose sign changes
 pub record Leaving (code : List ℕ) (d at e i : ℕ) : Type 0 where

@@ -7,7 +7,8 @@ use Rattle.codes.specs.Outcomes.{PathToCode, CodeToPath, Vertices, Child, Parent
 use Rattle.codes.specs.Determined.{code_check_determined, path_to_code_determined, code_to_path_determined, vertices_determined, child_determined, parent_determined}
 use Rattle.crossing.specs.declared.Crossed.{Crossed}
 use Rattle.crossing.specs.Outcome.{Crosses}
-use Rattle.crossing.proofs.Determined.{Same, determined}
+use Rattle.crossing.specs.Determined.{Same}
+use Rattle.crossing.proofs.Determined.{determined}
 use Rattle.sheets.specs.Sheets.{SheetIs}
 use Rattle.sheets.specs.Theorems.Determined.{sheet_determined}
 use Rattle.queries.specs.Queries.{LeafIs, ValueIs, FlatValueIs}

@@ -5,12 +5,15 @@ use Rattle.dimension.specs.Sizes.{is_dimension, greatest_depth, code_length, poi
 use Rattle.bisection.specs.Cells.{Point, Cell, vertex, cell_of, point_bytes, cell_bytes}
 use Rattle.bisection.specs.Codes.{code_of, dimension_of, depth_of}
 use Rattle.bisection.specs.Refusals.{done, code_refusal, is_root, is_path}
-use Rattle.bisection.proofs.Theorems.Ladders.{first_is, all_hold, holds, past}
-use Rattle.bisection.proofs.Theorems.CodePaths.{root_of, path_of, code_path, child_code}
+use Rattle.bisection.specs.Theorems.Ladders.{all_hold, holds, past}
+use Rattle.bisection.proofs.Theorems.Ladders.{first_is}
+use Rattle.bisection.specs.Theorems.CodePaths.{root_of, path_of, child_code}
+use Rattle.bisection.proofs.Theorems.CodePaths.{code_path}
 use Rattle.bisection.proofs.Theorems.CodeCells.{code_cell, cell_passes, one_cell}
 use Rattle.bisection.specs.Facets.{IsCell, Across}
 use Rattle.bisection.specs.Slopes.{on_axis, Linear}
-use Rattle.bisection.proofs.Theorems.Neighbour.{is_blocked, table_code, table_place, face_is_blocked, blocked_is_face, blocked_alone, across_unblocked}
+use Rattle.bisection.specs.Theorems.Neighbour.{is_blocked, table_code, table_place}
+use Rattle.bisection.proofs.Theorems.Neighbour.{face_is_blocked, blocked_is_face, blocked_alone, across_unblocked}
 use Rattle.codes.specs.Outcomes.{path_refusal, PathToCode, vertices_refusal, Vertices, child_refusal, Child}
 use Rattle.codes.specs.PathAnswers.{good_root, code_of_length}
 use Rattle.codes.specs.ChildAnswers.{child_of, child_length}

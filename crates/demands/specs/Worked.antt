@@ -5,11 +5,11 @@ use Rattle.std.proofs.Common.{arith}
 use Rattle.bisection.specs.Cells.{midpoint, child, moved, corners, root_cell, cell_below, cell_of, point_bytes, cell_bytes}
 use Rattle.bisection.specs.Codes.{minus, axis, negated, turned, stepped, high, minus_on, orthant_to, orthant, step, name_below, name_of, bytes, code_of, dimension_of, depth_of, entries_of, orthants_of, parts_of}
 use Rattle.bisection.specs.Refusals.{done, refused_sign, first_refusal, each, fresh, permutes, orthants_fit, own_minus, signs_own, head_refusal, length_of, body_refusal, code_refusal, is_root, is_path}
-use Rattle.bisection.proofs.Theorems.CodePaths.{root_of, path_of, child_code}
-use Rattle.bisection.proofs.Theorems.Paths.{root_to, path_to}
-use Rattle.bisection.proofs.Theorems.Passing.{parent_name, last_step, unstepped, fewer}
-use Rattle.bisection.proofs.Theorems.Entries.{unturned}
-use Rattle.bisection.proofs.Theorems.Table.{move, new_at, exchanged, negated_at, entries_by, flipped, runs_out, carried, orthants_by, blocked_by, next_own, move_of, blocked, across_name, new_place}
+use Rattle.bisection.specs.Theorems.CodePaths.{root_of, path_of, child_code}
+use Rattle.bisection.specs.Theorems.Paths.{root_to, path_to}
+use Rattle.bisection.specs.Theorems.Passing.{parent_name, last_step, unstepped, fewer}
+use Rattle.bisection.specs.Theorems.Entries.{unturned}
+use Rattle.bisection.specs.Theorems.Table.{move, new_at, exchanged, negated_at, entries_by, flipped, runs_out, carried, orthants_by, blocked_by, next_own, move_of, blocked, across_name, new_place}
 use Rattle.listing.specs.Texts.{digit, spelled, decimal, hex, number_line, leaf_line, leaf_lines, good_text, refused_text}
 use Rattle.listing.specs.Texts.{good as good_listing}
 use Rattle.demands.specs.TwoLeaves.{two_leaves, two_leaves_text, one_leaf, two_leaves_good, one_leaf_listed, too_large_listed}

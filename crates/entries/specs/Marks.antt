@@ -13,8 +13,10 @@ use Rattle.std.proofs.Math.ListN.{get_or-eq_default}
 use Rattle.std.proofs.lemmas.Bool.{lt-leb}
 use Rattle.bisection.specs.Codes.{axis, minus, high}
 use Rattle.bisection.specs.Refusals.{each, permutes, same_sign}
-use Rattle.bisection.proofs.Theorems.Onto.{Sought, sought, found, none, Taken, onto}
-use Rattle.bisection.proofs.Theorems.Entries.{Signed, Stands, stands}
+use Rattle.bisection.specs.Theorems.Onto.{Sought, found, none, Taken}
+use Rattle.bisection.proofs.Theorems.Onto.{sought, onto}
+use Rattle.bisection.specs.Theorems.Entries.{Signed, Stands}
+use Rattle.bisection.proofs.Theorems.Entries.{stands}
 use Rattle.bisection.proofs.Theorems.Orthants.{bits_same}
 use Rattle.bisection.proofs.Theorems.Passing.{same_true}
 use Rattle.bisection.proofs.Theorems.Checked.{each_at, permutes_signed, signed_permutes}

@@ -6,7 +6,8 @@ use Rattle.dimension.specs.Sizes.{code_length, longest_of_all, box_depth, split_
 use Rattle.dimension.specs.Laws.{Dimension, dimension, code_longest, depth_parts, split_range}
 use Rattle.bisection.specs.Codes.{bytes, dimension_of, depth_of, parts_of}
 use Rattle.bisection.specs.Refusals.{done, code_refusal}
-use Rattle.bisection.proofs.Theorems.Checked.{Good, good}
+use Rattle.bisection.specs.Theorems.Checked.{Good}
+use Rattle.bisection.proofs.Theorems.Checked.{good}
 
 pub record Checked (code : List ℕ) : Type 0 where
   pub good : Good code

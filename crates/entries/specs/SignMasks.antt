@@ -8,7 +8,7 @@ use Rattle.std.specs.Int.Bits.{bit_and, and_lt}
 use Rattle.std.proofs.Math.ListN.{get_or-map}
 use Rattle.bisection.specs.Codes.{axis, minus, high}
 use Rattle.bisection.specs.Refusals.{permutes}
-use Rattle.bisection.proofs.Theorems.Entries.{Signed, Stands}
+use Rattle.bisection.specs.Theorems.Entries.{Signed, Stands}
 use Rattle.bisection.proofs.Theorems.Orthants.{bits_same}
 use Rattle.bisection.proofs.Theorems.Passing.{same_true, same_is}
 use Rattle.bisection.proofs.Theorems.Checked.{each_at, at_each}

@@ -2,8 +2,8 @@
 use Rattle.std.specs.Prelude.{◌≡◌, Bool, true, cond, List, [], ◌∷◌, ◌++◌, ℕ, ◌/◌, ◌%◌, ◌^◌, get_or, drop}
 use Rattle.bisection.specs.Codes.{axis, minus, high, orthant}
 use Rattle.bisection.specs.Refusals.{same_sign}
-use Rattle.bisection.proofs.Theorems.Entries.{Signed}
-use Rattle.bisection.proofs.Theorems.Passing.{unstepped}
+use Rattle.bisection.specs.Theorems.Entries.{Signed}
+use Rattle.bisection.specs.Theorems.Passing.{unstepped}
 use Rattle.fours.specs.declared.Four.{Four}
 
 abbrev pub four : Four → List ℕ

@@ -7,7 +7,8 @@ use Prim.Native.Nat.{ℕ, zero, suc, ◌+◌, ◌-◌, ◌≤◌, ◌<◌}
 use Rattle.std.proofs.Math.ListN.{take, set, get_or-append}
 use Rattle.std.proofs.Math.Seq.{paste, take-set-le, drop-set-add}
 use Rattle.bisection.specs.Codes.{axis, negated, turned, stepped}
-use Rattle.bisection.proofs.Theorems.Entries.{unturned, turned_append, unturned_append, signed_turned, signed_unturned}
+use Rattle.bisection.specs.Theorems.Entries.{unturned}
+use Rattle.bisection.proofs.Theorems.Entries.{turned_append, unturned_append, signed_turned, signed_unturned}
 use Rattle.fours.specs.declared.Four.{Four}
 use Rattle.entries.specs.Walks.{place_in}
 use Rattle.entries.specs.Words.{NoneBehind}

@@ -9,7 +9,7 @@ use Rattle.std.proofs.Math.Nat.{mul-div_right}
 use Rattle.std.specs.Int.Bits.{bit_or, or_lt, or_zero_l, or_zero_r}
 use Rattle.std.proofs.Math.Pow.{pow_pos, pow-lt}
 use Rattle.bisection.specs.Codes.{axis, minus, high, orthant}
-use Rattle.bisection.proofs.Theorems.Entries.{Signed}
+use Rattle.bisection.specs.Theorems.Entries.{Signed}
 use Rattle.bisection.proofs.Theorems.Passing.{orthant_only}
 use Rattle.entries.specs.Masks.{mark_of, mark_in, marked_high, high_none}
 use Rattle.fours.specs.declared.Four.{Four}

@@ -8,8 +8,8 @@ use Rattle.std.proofs.Math.Seq.{paste}
 use Rattle.std.specs.Int.{w8}
 use Rattle.bisection.specs.Codes.{axis, minus, high, negated}
 use Rattle.bisection.specs.Refusals.{same_sign}
-use Rattle.bisection.proofs.Theorems.Entries.{unturned}
-use Rattle.bisection.proofs.Theorems.Passing.{unstepped}
+use Rattle.bisection.specs.Theorems.Entries.{unturned}
+use Rattle.bisection.specs.Theorems.Passing.{unstepped}
 use Rattle.entries.specs.Words.{word_of, bytes_of, four_from, bytes_of_sum, WordOf}
 use Rattle.fours.specs.declared.Four.{Four}
 use Rattle.fours.specs.Fours.{four, no_entries, BackIs}

@@ -7,7 +7,7 @@ pub mod words; // words.rt: entries as one word
 ghost use Rattle.std.specs.Prelude.{◌≡◌, cond, suc, ◌+◌, ◌≤◌, ◌<◌, ltb, length, get_or, drop};
 ghost use Rattle.std.proofs.Math.Seq.{paste};
 ghost use Rattle.bisection.specs.Codes.{axis, turned, stepped};
-ghost use Rattle.bisection.proofs.Theorems.Entries.{unturned};
+ghost use Rattle.bisection.specs.Theorems.Entries.{unturned};
 ghost use Rattle.fours.specs.Fours.{four, no_entries, part_of, SameFour, OwnIs};
 
 use entries::check;

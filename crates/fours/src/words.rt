@@ -2,7 +2,7 @@
 ghost use Rattle.std.specs.Prelude.{◌≡◌, cond, ◌+◌, ◌/◌, ◌%◌, ◌^◌, ◌≤◌, ◌<◌, length, get_or, drop};
 ghost use Rattle.std.proofs.Math.Seq.{paste};
 ghost use Rattle.bisection.specs.Codes.{axis};
-ghost use Rattle.bisection.proofs.Theorems.Entries.{unturned};
+ghost use Rattle.bisection.specs.Theorems.Entries.{unturned};
 ghost use Rattle.fours.specs.Fours.{four, no_entries, BackIs};
 ghost use Rattle.entries.specs.Words.{bytes_of};
 ghost use Rattle.fours.specs.Words.{WordIs};

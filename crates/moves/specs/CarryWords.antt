@@ -12,8 +12,9 @@ use Rattle.std.proofs.Math.Pow.{field, mod-mod-pow}
 use Rattle.bisection.specs.Codes.{high}
 use Rattle.bisection.specs.Refusals.{each, same_sign}
 use Rattle.bisection.proofs.Theorems.Checked.{each_at}
-use Rattle.bisection.proofs.Theorems.Table.{flipped}
-use Rattle.bisection.proofs.Theorems.Crossing.Flips.{Parts, parts, digit}
+use Rattle.bisection.specs.Theorems.Table.{flipped}
+use Rattle.bisection.specs.Theorems.Crossing.Flips.{Parts, digit}
+use Rattle.bisection.proofs.Theorems.Crossing.Flips.{parts}
 use Rattle.entries.specs.Masks.{shifted_bit}
 use Rattle.entries.specs.Words.{bytes_of, byte_at, and_byte, xor_byte, WordAt, word_byte, Puts, bytes_sum}
 use Rattle.moves.specs.Carrying.{passes, Running, Ends, Flips}

@@ -12,7 +12,7 @@ use Rattle.std.proofs.lemmas.Bool.{not-true, not-false}
 use Rattle.bisection.specs.Codes.{high}
 use Rattle.bisection.specs.Refusals.{same_sign}
 use Rattle.bisection.proofs.Theorems.Checked.{and_false, and_both}
-use Rattle.bisection.proofs.Theorems.Table.{flipped, runs_out, carried}
+use Rattle.bisection.specs.Theorems.Table.{flipped, runs_out, carried}
 use Rattle.bisection.proofs.Theorems.Crossing.Boxes.{carried_length}
 
 -- signs agree either way round

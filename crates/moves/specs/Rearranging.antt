@@ -6,8 +6,8 @@ use Rattle.std.proofs.Math.Decide.{dec_lt, ℕ_discrete}
 use Rattle.std.proofs.lemmas.Bool.{lt-leb}
 use Rattle.bisection.specs.Codes.{axis, minus, negated, turned, high}
 use Rattle.bisection.specs.Refusals.{same_sign}
-use Rattle.bisection.proofs.Theorems.Entries.{unturned}
-use Rattle.bisection.proofs.Theorems.Table.{Move, swap, farther, left, right, trade, move, new_at, exchanged, negated_at, entries_by}
+use Rattle.bisection.specs.Theorems.Entries.{unturned}
+use Rattle.bisection.specs.Theorems.Table.{Move, swap, farther, left, right, trade, move, new_at, exchanged, negated_at, entries_by}
 use Rattle.fours.specs.declared.Four.{Four}
 use Rattle.fours.specs.Fours.{four, Holds}
 use Rattle.fours.specs.Laws.{four_of, held_few, held_at, held_axis}

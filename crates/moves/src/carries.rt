@@ -2,7 +2,7 @@
 // Where that is can't be foreseen, and it is mostly among the last four: these are one word, with no branch for each.
 ghost use Rattle.std.specs.Prelude.{◌≡◌, ◌+◌, max, ◌≤◌, ◌<◌, length};
 ghost use Rattle.bisection.specs.Codes.{axis, minus};
-ghost use Rattle.bisection.proofs.Theorems.Table.{flipped};
+ghost use Rattle.bisection.specs.Theorems.Table.{flipped};
 ghost use Rattle.moves.specs.Carrying.{Ends, Flips};
 ghost use Rattle.moves.specs.CarryWords.{Stopping, Passed, FlippedFrom};
 

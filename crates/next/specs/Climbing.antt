@@ -5,7 +5,8 @@ use Rattle.std.proofs.Common.{sym, ◌∙◌, subst, arith}
 use Rattle.dimension.specs.Sizes.{split_place, box_depth}
 use Rattle.dimension.specs.Laws.{split_range, split_is}
 use Rattle.bisection.specs.Codes.{turned, step, stepped}
-use Rattle.bisection.proofs.Theorems.Entries.{unturned, unturned_turned}
+use Rattle.bisection.specs.Theorems.Entries.{unturned}
+use Rattle.bisection.proofs.Theorems.Entries.{unturned_turned}
 use Rattle.steps.specs.Above.{place_above, boxes_above, BoxesReady, above_ready, go_place, go_boxes}
 use Rattle.fours.specs.declared.Four.{Four}
 use Rattle.fours.specs.Fours.{four, Holds}

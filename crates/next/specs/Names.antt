@@ -12,7 +12,7 @@ use Rattle.dimension.specs.Laws.{Dimension, dimension, Within, Turned, deeper, b
 use Rattle.bisection.specs.Roots.{GoodRoot}
 use Rattle.bisection.specs.Codes.{Name, step, stepped, orthant, name_of, name_below, root_name}
 use Rattle.bisection.proofs.Theorems.Paths.{below_snoc}
-use Rattle.bisection.proofs.Theorems.Passing.{Passes}
+use Rattle.bisection.specs.Theorems.Passing.{Passes}
 use Rattle.bisection.proofs.Theorems.CodePaths.{some_axes, few_axes, name_passes}
 use Rattle.next.specs.Paths.{bit, steps, steps_length, zeros, zeros_length, stripped}
 

@@ -1,7 +1,8 @@
 -- A path with its last step first, a step 1 as true, so that it is read from its end.
 use Rattle.std.specs.Prelude.{◌≡◌, refl, Bool, true, false, cond, List, [], ◌∷◌, ◌++◌, ℕ, zero, suc, ◌+◌, ◌-◌, ◌*◌, ◌%◌, ◌/◌, ◌^◌, ◌≤◌, ◌<◌, length}
 use Rattle.std.proofs.Common.{sym, ap, ◌∙◌, arith, mul_assoc, add-mul, mul_left_comm, length-append}
-use Rattle.bisection.proofs.Theorems.Paths.{Steps, steps_more}
+use Rattle.bisection.specs.Theorems.Paths.{Steps}
+use Rattle.bisection.proofs.Theorems.Paths.{steps_more}
 use Rattle.positions.specs.Positions.{start_of}
 
 -- the step as a byte, and the path as bytes with its first step first

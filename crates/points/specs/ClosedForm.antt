@@ -4,8 +4,8 @@ use Rattle.std.specs.Prelude.{Bool, true, false, cond, List, ℕ, zero, suc, ◌
 use Rattle.dimension.specs.Sizes.{split_place, box_side}
 use Rattle.bisection.specs.Cells.{Point, coordinate, vertex, cell_of}
 use Rattle.bisection.specs.Codes.{axis, minus, name_of}
-use Rattle.bisection.proofs.Theorems.Geometry.{Moves}
-use Rattle.bisection.proofs.Theorems.Weights.Axes.{list_of}
+use Rattle.bisection.specs.Theorems.Geometry.{Moves}
+use Rattle.bisection.specs.Theorems.Weights.Axes.{list_of}
 
 -- how far x lies from the start, up for a plus and down for a minus
 abbrev pub gap : Bool → ℕ → ℕ → ℕ

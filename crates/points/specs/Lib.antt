@@ -5,3 +5,5 @@ pub mod Points
 pub mod Roots
 -- The weights in closed form: that they are the weights is proved.
 pub mod ClosedForm
+-- What the theorems speak of beside them; they stand in the modules of the same names in proofs/.
+pub mod Theorems

@@ -11,7 +11,8 @@ use Rattle.dimension.specs.Laws.{depth_small}
 use Rattle.bisection.specs.Roots.{roots}
 use Rattle.bisection.specs.Codes.{dimension_of, depth_of, IsCodeOf}
 use Rattle.bisection.specs.Refusals.{done, code_refusal}
-use Rattle.bisection.proofs.Theorems.CodePaths.{root_of, path_of, code_path, length_root, length_path_of}
+use Rattle.bisection.specs.Theorems.CodePaths.{root_of, path_of}
+use Rattle.bisection.proofs.Theorems.CodePaths.{code_path, length_root, length_path_of}
 use Rattle.entries.specs.Passed.{Checked, checked}
 use Rattle.fours.specs.declared.Four.{Four}
 use Rattle.fours.specs.Fours.{four, no_entries}

@@ -13,7 +13,8 @@ use Rattle.bisection.specs.Cells.{Point, point_bytes}
 use Rattle.bisection.specs.Refusals.{done, refused_short}
 use Rattle.bisection.specs.Weights.{Weighs}
 use Rattle.bisection.proofs.Theorems.CodePaths.{some_axes}
-use Rattle.bisection.proofs.Theorems.Ladders.{first_is, holds, fails, all_hold}
+use Rattle.bisection.specs.Theorems.Ladders.{holds, fails, all_hold}
+use Rattle.bisection.proofs.Theorems.Ladders.{first_is}
 use Rattle.bisection.proofs.Theorems.Weights.Axes.{weight_most}
 use Rattle.sheets.specs.declared.Edition.{Edition}
 use Rattle.sheets.specs.Forests.{TreeCell}
@@ -22,7 +23,8 @@ use Rattle.sheets.specs.Steps.{mark_of, IsFirst}
 use Rattle.sheets.specs.Theorems.Listing.{GoodCell}
 use Rattle.points.specs.Points.{point_of, is_point, refused_point}
 use Rattle.points.proofs.Theorems.Cells.{weights_scaled}
-use Rattle.points.proofs.Theorems.BoxWeights.{BoxWeights, box_weights}
+use Rattle.points.specs.Theorems.BoxWeights.{BoxWeights}
+use Rattle.points.proofs.Theorems.BoxWeights.{box_weights}
 use Rattle.points.proofs.Theorems.CubePoints.{point_in_cube}
 use Rattle.greys.specs.Fractions.{Fraction}
 use Rattle.greys.specs.Samples.{grey_sum, Weighable}

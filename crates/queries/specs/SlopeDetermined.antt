@@ -4,7 +4,8 @@ use Rattle.std.proofs.Common.{sym, ap, ◌∙◌, subst}
 use Rattle.dimension.specs.Sizes.{box_side}
 use Rattle.bisection.specs.Slopes.{Linear}
 use Rattle.bisection.specs.Cells.{Point, cell_of}
-use Rattle.bisection.proofs.Theorems.Slopes.One.{OneSlope, one_slope}
+use Rattle.bisection.specs.Theorems.Slopes.One.{OneSlope}
+use Rattle.bisection.proofs.Theorems.Slopes.One.{one_slope}
 use Rattle.sheets.specs.Forests.{TreeCell}
 use Rattle.sheets.specs.Sheets.{samples_of, leaf_in, sample_width, Good}
 use Rattle.sheets.specs.Theorems.Determined.{query_one}

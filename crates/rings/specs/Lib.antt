@@ -3,3 +3,5 @@
 pub mod Compatible
 -- The forms in which the rule is used: who has a facet, one look for each facet, whole rings.
 pub mod Rings
+-- What the theorems speak of beside them; they stand in the modules of the same names in proofs/.
+pub mod Theorems

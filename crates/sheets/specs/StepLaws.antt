@@ -9,7 +9,8 @@ use borrow.Author.Tests.{eq-eqb, ne_eqb, le-leb, lt-leb, leb-true}
 use Rattle.dimension.specs.Sizes.{is_dimension}
 use Rattle.bisection.specs.Refusals.{done}
 use Rattle.bisection.proofs.Theorems.Checked.{both}
-use Rattle.bisection.proofs.Theorems.Ladders.{first_is, all_hold, holds, fails, past, stops, own_last, held_at}
+use Rattle.bisection.specs.Theorems.Ladders.{all_hold, holds, fails, past, stops}
+use Rattle.bisection.proofs.Theorems.Ladders.{first_is, own_last, held_at}
 use Rattle.codes.specs.declared.Head.{Head}
 use Rattle.codes.specs.Fronts.{front_refusal, front_length, front_code, inner_refusal, HeadIs, Headed}
 use Rattle.codes.specs.Fronts.Laws.{front_is_front, front_headed, front_known}

@@ -2,7 +2,7 @@
 use Rattle.std.specs.Prelude.{◌≡◌, refl, Bool, true, false, cond, ℕ, ◌+◌, ◌*◌, ◌^◌, ◌<◌, ltb, eqb, Float}
 use Rattle.std.proofs.Common.{arith}
 use Rattle.std.proofs.Math.IntN.{sub_ℕ}
-use Rattle.bisection.proofs.Theorems.Slopes.One.{by_sign}
+use Rattle.bisection.specs.Theorems.Slopes.One.{by_sign}
 use Rattle.greys.specs.Fractions.{Quotient, Power}
 
 -- what rises and what falls along entry i

@@ -12,11 +12,13 @@ use Rattle.bisection.specs.Codes.{axis, minus, IsCodeOf, dimension_of, depth_of,
 use Rattle.bisection.specs.Refusals.{done, code_refusal}
 use Rattle.bisection.specs.Slopes.{on_axis, Linear}
 use Rattle.bisection.proofs.Theorems.CodePaths.{code_passes, dimension_of_code, depth_of_code, parts_of_code}
-use Rattle.bisection.proofs.Theorems.Drawn.{entry}
-use Rattle.bisection.proofs.Theorems.Entries.{Signed, Stands, stands}
+use Rattle.bisection.specs.Theorems.Drawn.{entry}
+use Rattle.bisection.specs.Theorems.Entries.{Signed, Stands}
+use Rattle.bisection.proofs.Theorems.Entries.{stands}
 use Rattle.bisection.proofs.Theorems.Geometry.{closed_form}
-use Rattle.bisection.proofs.Theorems.Slopes.Rising.{rising, falling}
-use Rattle.bisection.proofs.Theorems.Slopes.One.{by_sign, along_entry, OneSlope, one_slope}
+use Rattle.bisection.specs.Theorems.Slopes.Rising.{rising, falling}
+use Rattle.bisection.specs.Theorems.Slopes.One.{by_sign, along_entry, OneSlope}
+use Rattle.bisection.proofs.Theorems.Slopes.One.{one_slope}
 use Rattle.entries.specs.Words.{bytes_of}
 use Rattle.entries.specs.Passed.{checked}
 use Rattle.fours.specs.Fours.{no_entries}

@@ -4,7 +4,7 @@
 
 ghost use Rattle.std.specs.Prelude.{◌≡◌, ◌-◌, ◌^◌, ◌≤◌, ◌<◌};
 ghost use Rattle.bisection.specs.Codes.{axis, minus};
-ghost use Rattle.bisection.proofs.Theorems.Slopes.One.{by_sign};
+ghost use Rattle.bisection.specs.Theorems.Slopes.One.{by_sign};
 ghost use Rattle.greys.specs.Fractions.{Quotient, Power};
 ghost use Rattle.slopes.specs.Slopes.{flat_of};
 ghost use Rattle.slopes.specs.Along.{rising_by, falling_by};

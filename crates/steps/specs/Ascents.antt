@@ -7,8 +7,8 @@ use Rattle.std.proofs.Math.Seq.{paste, take_all}
 use Rattle.dimension.specs.Sizes.{code_length, split_place, box_depth}
 use Rattle.bisection.specs.Codes.{dimension_of, depth_of, orthants_of, parts_of}
 use Rattle.bisection.specs.Refusals.{done, code_refusal}
-use Rattle.bisection.proofs.Theorems.Paths.{path_to, root_to}
-use Rattle.bisection.proofs.Theorems.CodePaths.{root_of, path_of}
+use Rattle.bisection.specs.Theorems.Paths.{path_to, root_to}
+use Rattle.bisection.specs.Theorems.CodePaths.{root_of, path_of}
 use Rattle.entries.specs.Passed.{checked}
 use Rattle.fours.specs.declared.Four.{Four}
 use Rattle.fours.specs.Fours.{four, no_entries}

@@ -9,8 +9,10 @@ use Rattle.std.proofs.Math.Seq.{take-take, drop-set-lt}
 use Rattle.dimension.specs.Sizes.{code_length, split_place, box_depth}
 use Rattle.dimension.specs.Laws.{Dimension, split_range}
 use Rattle.bisection.specs.Codes.{axis, Name}
-use Rattle.bisection.proofs.Theorems.Passing.{Passes, fewer, last_step, parent_name, parent_passes}
-use Rattle.bisection.proofs.Theorems.Paths.{path_to, root_to, path_suc}
+use Rattle.bisection.specs.Theorems.Passing.{Passes, fewer, last_step, parent_name}
+use Rattle.bisection.proofs.Theorems.Passing.{parent_passes}
+use Rattle.bisection.specs.Theorems.Paths.{path_to, root_to}
+use Rattle.bisection.proofs.Theorems.Paths.{path_suc}
 use Rattle.entries.specs.Walks.{own_byte}
 use Rattle.fours.specs.Fours.{BackIs}
 use Rattle.steps.specs.Relatives.{box_grows, length_mono}

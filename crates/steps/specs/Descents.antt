@@ -10,7 +10,7 @@ use Rattle.dimension.specs.Sizes.{greatest_depth, code_length, split_place, box_
 use Rattle.dimension.specs.Laws.{Dimension, dimension, at_root, depth_small, split_range, split_after}
 use Rattle.bisection.specs.Roots.{GoodRoot}
 use Rattle.bisection.specs.Codes.{stepped, Name, step, root_name, name_below, name_of, bytes, code_of}
-use Rattle.bisection.proofs.Theorems.Passing.{Passes}
+use Rattle.bisection.specs.Theorems.Passing.{Passes}
 use Rattle.bisection.proofs.Theorems.Paths.{below_passes, below_snoc, root_passes}
 use Rattle.fours.specs.declared.Four.{Four}
 use Rattle.fours.specs.Fours.{four, no_entries, Holds}

@@ -12,8 +12,8 @@ use Rattle.dimension.specs.Laws.{split_range, split_is}
 use Rattle.bisection.specs.Codes.{axis, Name, bytes, depth_of, orthants_of, parts_of}
 use Rattle.bisection.specs.Refusals.{own_minus}
 use Rattle.bisection.proofs.Theorems.Entries.{unturned_append, unturned_length}
-use Rattle.bisection.proofs.Theorems.Passing.{Passes, fewer, last_step, unstepped, parent_name}
-use Rattle.bisection.proofs.Theorems.CodePaths.{parent_code}
+use Rattle.bisection.specs.Theorems.Passing.{Passes, fewer, last_step, unstepped, parent_name}
+use Rattle.bisection.specs.Theorems.CodePaths.{parent_code}
 use Rattle.entries.specs.Walks.{own_byte}
 use Rattle.entries.specs.Passed.{code_few, checked}
 use Rattle.fours.specs.declared.Four.{Four}

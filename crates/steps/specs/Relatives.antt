@@ -11,8 +11,8 @@ use Rattle.dimension.specs.Sizes.{code_length, longest_of_all, split_place, box_
 use Rattle.dimension.specs.Laws.{depth_small, Within, Turned, deeper, split_range}
 use Rattle.bisection.specs.Codes.{stepped, Name, step, bytes, dimension_of, depth_of, entries_of, parts_of}
 use Rattle.bisection.specs.Refusals.{done, code_refusal}
-use Rattle.bisection.proofs.Theorems.CodePaths.{child_code}
-use Rattle.bisection.proofs.Theorems.Passing.{Passes}
+use Rattle.bisection.specs.Theorems.CodePaths.{child_code}
+use Rattle.bisection.specs.Theorems.Passing.{Passes}
 use Rattle.entries.specs.Passed.{Checked, checked, code_few}
 use Rattle.fours.specs.declared.Four.{Four}
 use Rattle.fours.specs.Fours.{four, no_entries, Holds}

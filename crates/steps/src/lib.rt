@@ -6,7 +6,7 @@ pub mod walks; // walks.rt: a whole path down, a whole path up
 
 ghost use Rattle.std.specs.Prelude.{◌≡◌, cond, eqb, suc, ◌+◌, ◌-◌, ◌≤◌, length, take, drop, ◌++◌};
 ghost use Rattle.dimension.specs.Sizes.{axes_of, code_length};
-ghost use Rattle.bisection.proofs.Theorems.CodePaths.{child_code, parent_code};
+ghost use Rattle.bisection.specs.Theorems.CodePaths.{child_code, parent_code};
 ghost use Rattle.entries.specs.Walks.{own_byte};
 ghost use Rattle.steps.specs.Steps.{RoomForBox, BoxPut};
 ghost use Rattle.steps.specs.Above.{place_above, BoxesReady, boxes_above};

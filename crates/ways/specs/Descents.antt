@@ -9,9 +9,11 @@ use Rattle.bisection.specs.Weights.{Inside}
 use Rattle.bisection.proofs.Theorems.Weights.Axes.{weight_most}
 use Rattle.positions.specs.Positions.{start_of}
 use Rattle.points.specs.Roots.{FirstRoot}
-use Rattle.points.proofs.Theorems.Halving.{Fits, down, low_down_first, low_down_last, low_down_other, high_down_before, high_down_rest, high_down_last, high_down_past}
+use Rattle.points.specs.Theorems.Halving.{Fits, down}
+use Rattle.points.proofs.Theorems.Halving.{low_down_first, low_down_last, low_down_other, high_down_before, high_down_rest, high_down_last, high_down_past}
 use Rattle.points.proofs.Theorems.RootCells.{side_some}
-use Rattle.points.proofs.Theorems.Cells.{CellAxes, split_of, one_longer, step_down, in_half, half_fits}
+use Rattle.points.specs.Theorems.Cells.{CellAxes, split_of}
+use Rattle.points.proofs.Theorems.Cells.{one_longer, step_down, in_half, half_fits}
 use Rattle.ways.specs.declared.Stepped.{Stepped}
 use Rattle.ways.specs.declared.Place.{Place}
 use Rattle.ways.specs.Ways.{root_at, LocatedIs, Chosen, low, high, SteppedIs, CellWeights, Reached, Begun, Descended}

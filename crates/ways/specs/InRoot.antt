@@ -11,7 +11,8 @@ use Rattle.positions.specs.Arrangements.{here, there, Arranged, none, next, arra
 use Rattle.positions.specs.RootNumbers.{axes_length, roots_count, roots_good, roots_length}
 use Rattle.points.specs.Points.{InCube}
 use Rattle.points.specs.Roots.{FirstRoot}
-use Rattle.points.proofs.Theorems.RootCells.{Falls, falls_none, falls_more, falls_inside}
+use Rattle.points.specs.Theorems.RootCells.{Falls, falls_none, falls_more}
+use Rattle.points.proofs.Theorems.RootCells.{falls_inside}
 use Rattle.points.proofs.Theorems.Cells.{dec_inside}
 
 -- an arrangement along which v falls

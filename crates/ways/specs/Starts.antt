@@ -13,13 +13,16 @@ use Rattle.bisection.specs.Weights.{Inside}
 use Rattle.bisection.proofs.Theorems.Checked.{at_each, each_fails}
 use Rattle.bisection.proofs.Theorems.CodePaths.{some_axes}
 use Rattle.bisection.proofs.Theorems.Geometry.{closed_form}
-use Rattle.bisection.proofs.Theorems.Weights.Axes.{axes_same, list_of, list_length, list_at, weighs_axes, axes_weighs}
+use Rattle.bisection.specs.Theorems.Weights.Axes.{list_of}
+use Rattle.bisection.proofs.Theorems.Weights.Axes.{axes_same, list_length, list_at, weighs_axes, axes_weighs}
 use Rattle.positions.specs.RootNumbers.{roots_count, roots_good, roots_length, roots_few}
 use Rattle.points.specs.Points.{point_of, is_point, InCube}
 use Rattle.points.specs.Roots.{FirstRoot}
-use Rattle.points.proofs.Theorems.RootCells.{Falls, falls_by, height, root_weight, height_some, height_past, height_falls, inside_falls, falls_axes, falls_inside}
-use Rattle.points.proofs.Theorems.Cells.{CellAxes}
-use Rattle.points.proofs.Theorems.CubePoints.{in_range, point_bytes, point_in_cube}
+use Rattle.points.specs.Theorems.RootCells.{Falls, height, root_weight}
+use Rattle.points.proofs.Theorems.RootCells.{falls_by, height_some, height_past, height_falls, inside_falls, falls_axes, falls_inside}
+use Rattle.points.specs.Theorems.Cells.{CellAxes}
+use Rattle.points.specs.Theorems.CubePoints.{in_range}
+use Rattle.points.proofs.Theorems.CubePoints.{point_bytes, point_in_cube}
 use Rattle.ways.specs.Ways.{root_at, AtRoot, RootHolds, CellWeights}
 use Rattle.ways.specs.InRoot.{some_root, none_next}
 

@@ -5,11 +5,11 @@ use Rattle.dimension.specs.Sizes.{is_dimension, root_count, greatest_depth, cube
 use Rattle.bisection.specs.Cells.{Point, cell_of}
 use Rattle.bisection.specs.Roots.{GoodRoot, roots}
 use Rattle.bisection.specs.Weights.{Weighs, Inside}
-use Rattle.bisection.proofs.Theorems.Weights.Axes.{list_of}
+use Rattle.bisection.specs.Theorems.Weights.Axes.{list_of}
 use Rattle.positions.specs.Positions.{start_of}
 use Rattle.points.specs.Points.{point_of, is_point}
 use Rattle.points.specs.Roots.{FirstRoot}
-use Rattle.points.proofs.Theorems.Halving.{down}
+use Rattle.points.specs.Theorems.Halving.{down}
 use Rattle.ways.specs.declared.Stepped.{Stepped}
 use Rattle.ways.specs.declared.Place.{Place}
 use Rattle.ways.specs.declared.Located.{Located}

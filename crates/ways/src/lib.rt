@@ -9,8 +9,8 @@ ghost use Rattle.bisection.specs.Roots.{roots};
 ghost use Rattle.bisection.specs.Weights.{Inside};
 ghost use Rattle.points.specs.Points.{point_of, is_point};
 ghost use Rattle.points.specs.Roots.{FirstRoot};
-ghost use Rattle.points.proofs.Theorems.RootCells.{height, root_weight};
-ghost use Rattle.points.proofs.Theorems.Halving.{down};
+ghost use Rattle.points.specs.Theorems.RootCells.{height, root_weight};
+ghost use Rattle.points.specs.Theorems.Halving.{down};
 ghost use Rattle.ways.specs.Ways.{root_at, AtRoot, RootHolds, CellWeights, Chosen, SteppedIs, Begun, Descended, LocatedIs};
 ghost use Rattle.ways.specs.Descents.{HalfReady, StepReady};
 

@@ -1,20 +1,11 @@
 -- One axis of a cell at a time. The closed form of the vertices' coordinates on the axis of entry i (i from 0):
 -- the box's near side up to vertex i, then its far side up to vertex k, then its middle. A step of the
 -- bisection keeps that form, with the entry where the step rule puts it.
-use Rattle.std.specs.Prelude.{◌≡◌, refl, Bool, true, false, cond, not, ℕ, suc, ◌+◌, ◌/◌, ◌%◌, ◌≤◌, ◌<◌, ltb, leb, eqb}
+use Rattle.std.specs.Prelude.{◌≡◌, refl, Bool, true, false, not, ℕ, suc, ◌+◌, ◌/◌, ◌%◌, ◌≤◌, ◌<◌}
 use native.Mathlib.Omega.{arith}
 use Rattle.std.proofs.Math.Decide.{dec_lt, dec_le, ℕ_discrete}
 use borrow.Author.Tests.{lt-ltb, le-ltb, le-leb, lt-leb, eq-eqb, ne_eqb}
-
--- the box's low side is lo and its side s: near is the low side for a plus and the high side for a minus
-abbrev pub near : ℕ → ℕ → Bool → ℕ
-near lo s minus = cond minus (lo + s) lo
-
-abbrev pub far : ℕ → ℕ → Bool → ℕ
-far lo s minus = near lo s (not minus)
-
-unfoldable pub closed : ℕ → ℕ → Bool → ℕ → ℕ → ℕ → ℕ
-closed lo s minus i k j = cond (leb j i) (near lo s minus) (cond (leb j k) (far lo s minus) (lo + s / 2))
+use Rattle.bisection.specs.Theorems.Axis.{Order, closed, far, half_low, mid, near, over, row0, row1, same, under}
 
 module _ (lo s : ℕ) (m : Bool) (i k j : ℕ) where
   pub closed_near : j ≤ i → closed lo s m i k j ≡ near lo s m
@@ -28,16 +19,6 @@ module _ (lo s : ℕ) (m : Bool) (i k j : ℕ) where
   pub closed_middle : i < j → k < j → closed lo s m i k j ≡ lo + s / 2
   unfolding closed
   closed_middle h l = simp (lt-leb j i h, lt-leb j k l)
-
--- the child's coordinates, vertex by vertex
-abbrev pub mid : ℕ → ℕ → ℕ
-mid x y = (x + y) / 2
-
-unfoldable pub row0 : ℕ → (ℕ → ℕ) → ℕ → ℕ
-row0 k r j = cond (eqb j k) (mid (r 0) (r k)) (r j)
-
-unfoldable pub row1 : ℕ → (ℕ → ℕ) → ℕ → ℕ
-row1 k r j = cond (ltb j k) (r (suc j)) (cond (eqb j k) (mid (r 0) (r k)) (r j))
 
 module _ (k : ℕ) (r : ℕ → ℕ) (j : ℕ) where
   pub row0_at : j ≡ k → row0 k r j ≡ mid (r 0) (r k)
@@ -68,12 +49,6 @@ mid_same : (x : ℕ) → mid x x ≡ x
 mid_same x = omega arith
 
 ruleset rules = (row0_at, row0_other, row1_before, row1_at, row1_past, closed_near, closed_far, closed_middle, mid_sides, mid_same)
-
--- three ways of two numbers
-pub data Order (a b : ℕ) : Type 0 where
-  under : a < b → Order a b
-  same : a ≡ b → Order a b
-  over : b < a → Order a b
 
 pub order : (a b : ℕ) → Order a b
 order a b = go (dec_lt a b) (ℕ_discrete a b)
@@ -163,10 +138,6 @@ module _ (lo s : ℕ) (m : Bool) (n d : ℕ) (nd : suc n ≤ d) (r : ℕ → ℕ
       go (same a) c = let h0 : 0 ≤ i = omega arith in let h1 : suc n ≤ i = omega arith in let h2 : j ≤ i = omega arith in simp (rules, is, nd, z)
       go (over a) (yes c) = simp (rules, is)
       go (over a) (no c) = let h : i < j = omega arith in let h1 : n < j = omega arith in simp (rules, is)
-
--- the level's end: k = 0 is k = d in the half box that vertex 0 is in
-abbrev pub half_low : ℕ → ℕ → Bool → ℕ
-half_low lo s minus = cond minus (lo + s / 2) lo
 
 near_same : (lo s : ℕ) (m : Bool) → s % 2 ≡ 0 → near lo s m ≡ near (half_low lo s m) (s / 2) m
 near_same lo s true e = omega arith

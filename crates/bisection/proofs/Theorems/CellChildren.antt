@@ -11,6 +11,7 @@ use Rattle.bisection.specs.Roots.{GoodPath}
 use Rattle.bisection.specs.Codes.{code_of, IsCodeOf, dimension_of, depth_of}
 use Rattle.bisection.specs.Facets.{IsCell}
 use Rattle.bisection.proofs.Theorems.CodePaths.{length_root, length_path_of}
+use Rattle.bisection.specs.Theorems.CellChildren.{Longer}
 
 below_child : (d : ℕ) (path : List ℕ) (D : ℕ) (vs : Cell) (b : ℕ)
     → cell_below d D vs (path ++ b ∷ []) ≡ child b (split_place d (D + length path)) (cell_below d D vs path)
@@ -32,12 +33,6 @@ shorter p q x y e = sym (take_at p (x ∷ []) (length p) refl) ∙ ap (take (len
   where
     size : length p ≡ length q
     size = omega (arith, simp length-append at (ap length e))
-
--- a path that is not empty has a last step
-pub record Longer (path : List ℕ) : Type 0 where
-  pub front : List ℕ
-  pub last : ℕ
-  pub is : path ≡ front ++ last ∷ []
 
 pub longer : (b : ℕ) (path : List ℕ) → Longer (b ∷ path)
 longer b [] = record { front = []; last = b; is = refl }

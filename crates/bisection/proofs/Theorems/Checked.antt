@@ -14,9 +14,12 @@ use borrow.Author.Tests.{lt-ltb, le-leb, eq-eqb, ne_eqb, leb-true, ltb-true, eqb
 use Rattle.dimension.specs.Sizes.{is_dimension, greatest_depth, code_length, split_place, box_depth}
 use Rattle.bisection.specs.Codes.{axis, minus, Name, bytes, dimension_of, depth_of, entries_of, orthants_of, parts_of}
 use Rattle.bisection.specs.Refusals.{done, each, fresh, permutes, orthants_fit, own_minus, same_sign, signs_own, head_refusal, length_of, body_refusal, code_refusal}
-use Rattle.bisection.proofs.Theorems.Ladders.{first_is, all_hold, holds, past, held_at}
-use Rattle.bisection.proofs.Theorems.Entries.{Signed}
-use Rattle.bisection.proofs.Theorems.Passing.{Own, Boxes, Passes, same_true, same_is}
+use Rattle.bisection.specs.Theorems.Ladders.{all_hold, holds, past}
+use Rattle.bisection.proofs.Theorems.Ladders.{first_is, held_at}
+use Rattle.bisection.specs.Theorems.Entries.{Signed}
+use Rattle.bisection.specs.Theorems.Passing.{Own, Boxes, Passes}
+use Rattle.bisection.proofs.Theorems.Passing.{same_true, same_is}
+use Rattle.bisection.specs.Theorems.Checked.{Good}
 
 -- two tests, and a test of every number below n
 pub both : (s t : Bool) → (s && t) ≡ true → (s ≡ true) × (t ≡ true)
@@ -137,13 +140,6 @@ module _ (d D : ℕ) (m : Name) (entries : length m.entries ≡ d) where
 
       orthants : drop (2 + d) (d ∷ D ∷ (m.entries ++ m.orthants)) ≡ m.orthants
       orthants = rw two (drop_at m.entries m.orthants d entries)
-
--- a code that passes
-pub record Good (code : List ℕ) : Type 0 where
-  pub dimension : is_dimension (dimension_of code) ≡ true
-  pub depth : depth_of code ≤ greatest_depth (dimension_of code)
-  pub passes : Passes (dimension_of code) (depth_of code) (parts_of code)
-  pub is : code ≡ bytes (dimension_of code) (depth_of code) (parts_of code)
 
 -- from two bytes on, a list is its first two and the rest
 two_and_rest : (l : List ℕ) → 2 ≤ length l → l ≡ get_or l 0 0 ∷ get_or l 1 0 ∷ drop 2 l

@@ -5,7 +5,8 @@ use Rattle.std.proofs.Common.{sym, ◌∙◌}
 use Rattle.bisection.specs.Cells.{Cell, cell_of}
 use Rattle.bisection.specs.Refusals.{done, code_refusal}
 use Rattle.bisection.specs.Facets.{IsCell}
-use Rattle.bisection.proofs.Theorems.CodePaths.{code_passes, code_path, one_path, root_of, path_of}
+use Rattle.bisection.specs.Theorems.CodePaths.{root_of, path_of}
+use Rattle.bisection.proofs.Theorems.CodePaths.{code_passes, code_path, one_path}
 use Rattle.bisection.proofs.Theorems.OneCode.{one_code}
 
 -- a code that passes has a cell, and a code that has a cell passes

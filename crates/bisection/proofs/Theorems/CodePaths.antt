@@ -10,9 +10,13 @@ use Rattle.dimension.specs.Laws.{dimension}
 use Rattle.bisection.specs.Roots.{Permutation, GoodRoot, GoodPath}
 use Rattle.bisection.specs.Codes.{Name, step, root_name, name_of, bytes, code_of, IsCodeOf, dimension_of, depth_of, parts_of}
 use Rattle.bisection.specs.Refusals.{done, code_refusal}
-use Rattle.bisection.proofs.Theorems.Passing.{Passes, parent_name, parent_step, step_passes}
-use Rattle.bisection.proofs.Theorems.Paths.{path_to, root_to, Steps, root_passes, below_passes, path_below, root_below, length_path, steps_path, root_root, name_again, below_snoc}
-use Rattle.bisection.proofs.Theorems.Checked.{Good, good, bytes_done, parts_bytes}
+use Rattle.bisection.specs.Theorems.Passing.{Passes, parent_name}
+use Rattle.bisection.proofs.Theorems.Passing.{parent_step, step_passes}
+use Rattle.bisection.specs.Theorems.Paths.{path_to, root_to, Steps}
+use Rattle.bisection.proofs.Theorems.Paths.{root_passes, below_passes, path_below, root_below, length_path, steps_path, root_root, name_again, below_snoc}
+use Rattle.bisection.specs.Theorems.Checked.{Good}
+use Rattle.bisection.proofs.Theorems.Checked.{good, bytes_done, parts_bytes}
+use Rattle.bisection.specs.Theorems.CodePaths.{child_code, parent_code, path_of, root_of}
 
 module _ {d : ℕ} (e : is_dimension d ≡ true) where
   pub some_axes : 0 < d
@@ -64,13 +68,6 @@ pub code_passes : (root path : List ℕ) → GoodRoot root → GoodPath (length 
 unfolding code_of
 code_passes root path r p = bytes_done (length root) (length path) (name_of root path) r.dimension p.depth (name_passes r path)
 
--- the root and the path of a code that passes
-unfoldable pub root_of : List ℕ → List ℕ
-root_of code = root_to (dimension_of code) (depth_of code) (parts_of code)
-
-unfoldable pub path_of : List ℕ → List ℕ
-path_of code = path_to (dimension_of code) (depth_of code) (parts_of code)
-
 -- every byte string that passes is the code of a good root and a good path
 pub code_path : (code : List ℕ) → code_refusal code ≡ done → IsCodeOf code (root_of code) (path_of code)
 unfolding root_of path_of
@@ -120,10 +117,6 @@ module _ {code root path : List ℕ} (c : IsCodeOf code root path) where
 pub one_path : {code root path root' path' : List ℕ} → IsCodeOf code root path → IsCodeOf code root' path' → (root ≡ root') × (path ≡ path')
 one_path c c' = (sym (the_root c) ∙ the_root c', sym (the_path c) ∙ the_path c')
 
--- the step rule on a code's bytes
-unfoldable pub child_code : ℕ → List ℕ → List ℕ
-child_code b code = bytes (dimension_of code) (suc (depth_of code)) (step (dimension_of code) (depth_of code) b (parts_of code))
-
 -- the child's code is the step of the code
 pub child_code_is : (root path : List ℕ) → GoodRoot root → (b : ℕ) → code_of root (path ++ b ∷ []) ≡ child_code b (code_of root path)
 unfolding child_code
@@ -134,10 +127,6 @@ child_code_is root path r b = rw (dimension_of_code root path, depth_of_code roo
 
     go : code_of root (path ++ b ∷ []) ≡ bytes (length root) (suc (length path)) (step (length root) (length path) b (name_of root path))
     go = unfold code_of name_of in rw (more, below_snoc (length root) (d0 r path) (small r path) path 0 (root_name root) b, zero-add (length path)) refl
-
--- the parent's code, found by the sign of entry k
-unfoldable pub parent_code : List ℕ → List ℕ
-parent_code code = bytes (dimension_of code) (depth_of code - 1) (parent_name (dimension_of code) (depth_of code - 1) (parts_of code))
 
 pub parent_code_is : (root path : List ℕ) → GoodRoot root → (b : ℕ) → b ≤ 1 → parent_code (code_of root (path ++ b ∷ [])) ≡ code_of root path
 unfolding parent_code

@@ -15,39 +15,21 @@ use Rattle.dimension.specs.Laws.{Within, Turned, deeper, split_range, at_root, s
 use Rattle.bisection.specs.Cells.{Point, Cell, coordinate, vertex, child, moved, corners, root_cell, cell_below}
 use Rattle.bisection.specs.Roots.{Permutation}
 use Rattle.bisection.specs.Codes.{axis, minus, turned, stepped, high, orthant, Name, step, root_name, name_below}
-use Rattle.bisection.proofs.Theorems.Lists.{middle, child_set, child_shifted, shifted, shifted_before, shifted_at, shifted_past, shifted_length, get_or_midpoint, length_midpoint}
-use Rattle.bisection.proofs.Theorems.Axis.{closed, closed_near, closed_far, row0, row1, row0_at, row0_other, row1_before, row1_at, row1_past, Order, order, under, same, over, child0_closed, child1_moved, child1_first, child1_past, half_low, level_end}
-use Rattle.bisection.proofs.Theorems.Entries.{Signed, axis_negated, minus_negated, turned_before, turned_at, turned_past}
-use Rattle.bisection.proofs.Theorems.Passing.{Passes, step_passes, orthant_high, signed_stepped}
+use Rattle.bisection.specs.Theorems.Lists.{middle, shifted}
+use Rattle.bisection.proofs.Theorems.Lists.{child_set, child_shifted, shifted_before, shifted_at, shifted_past, shifted_length, get_or_midpoint, length_midpoint}
+use Rattle.bisection.specs.Theorems.Axis.{closed, row0, row1, Order, under, same, over, half_low}
+use Rattle.bisection.proofs.Theorems.Axis.{closed_near, closed_far, row0_at, row0_other, row1_before, row1_at, row1_past, order, child0_closed, child1_moved, child1_first, child1_past, level_end}
+use Rattle.bisection.specs.Theorems.Entries.{Signed}
+use Rattle.bisection.proofs.Theorems.Entries.{axis_negated, minus_negated, turned_before, turned_at, turned_past}
+use Rattle.bisection.specs.Theorems.Passing.{Passes}
+use Rattle.bisection.proofs.Theorems.Passing.{step_passes, orthant_high, signed_stepped}
 use Rattle.bisection.proofs.Theorems.Paths.{plain_minus, plain_axis}
-
--- the low side of the box on axis a: the sum over t of (bit a of orthant t) times the side after t halvings,
--- the first orthant of the list halving for the (M + 1)th time
-unfoldable pub box_low : ℕ → ℕ → List ℕ → ℕ
-box_low a M [] = 0
-box_low a M (o ∷ os) = cond (high o a) (side_after (suc M)) 0 + box_low a (suc M) os
+use Rattle.bisection.specs.Theorems.Drawn.{Distinct, Drawn, Sized, along, box_low}
 
 pub box_low_snoc : (a M : ℕ) (os : List ℕ) (o : ℕ) → box_low a M (os ++ o ∷ []) ≡ box_low a M os + cond (high o a) (side_after (suc (M + length os))) 0
 unfolding box_low
 box_low_snoc a M [] o = rw (add-zero M) (omega arith)
 box_low_snoc a M (p ∷ os) o = rw (add-suc M (length os), ← suc-add M (length os)) (omega (arith, box_low_snoc a (suc M) os o))
-
--- d + 1 points of d coordinates
-pub record Sized (d : ℕ) (vs : Cell) : Type 0 where
-  pub size : length vs ≡ suc d
-  pub dims : (j : ℕ) → j ≤ d → length (vertex vs j) ≡ d
-
--- the vertices' coordinates on axis a
-abbrev pub along : Cell → ℕ → ℕ → ℕ
-along vs a j = coordinate (vertex vs j) a
-
--- entry i of a name
-abbrev pub entry : Name → ℕ → ℕ
-entry m i = get_or m.entries i 0
-
-pub record Drawn (d D : ℕ) (m : Name) (vs : Cell) : Type 0 where
-  pub sized : Sized d vs
-  pub reads : (i : ℕ) → i < d → (j : ℕ) → j ≤ d → along vs (axis (entry m i)) j ≡ closed (box_low (axis (entry m i)) 0 m.orthants) (box_side d D) (minus (entry m i)) i (split_place d D) j
 
 -- a child of a cell, one axis at a time
 module _ (d k : ℕ) (vs : Cell) (z : Sized d vs) (kd : k ≤ d) where
@@ -171,12 +153,6 @@ module _ (d D : ℕ) (d0 : 0 < d) (small : d < 128) (deep : D < greatest_depth d
         where
           signed : Signed d es
           signed = rw split_suc (signed_stepped p.signed n n_in small b)
-
--- the corners of a root: axes 1..n, none repeated
-pub record Distinct (n : ℕ) (axes : List ℕ) : Type 0 where
-  pub low : (i : ℕ) → i < length axes → 1 ≤ get_or axes i 0
-  pub high : (i : ℕ) → i < length axes → get_or axes i 0 ≤ n
-  pub apart : (i j : ℕ) → i < length axes → j < length axes → get_or axes i 0 ≡ get_or axes j 0 → i ≡ j
 
 distinct_rest : {n x : ℕ} {axes : List ℕ} → Distinct n (x ∷ axes) → Distinct n axes
 distinct_rest t = record {

@@ -1,6 +1,6 @@
 -- Signed permutations: an entry's axis and sign, the turn of child 1, and its way back. A turn takes every
 -- entry from one place, so it keeps a signed permutation one.
-use Rattle.std.specs.Prelude.{◌≡◌, Bool, true, false, cond, not, List, [], ◌∷◌, ◌++◌, eqb, leb, ltb, take}
+use Rattle.std.specs.Prelude.{◌≡◌, Bool, true, false, cond, not, List, [], ◌∷◌, ◌++◌, leb, take}
 use Rattle.std.proofs.Math.Path.{refl, ap, subst}
 use Rattle.std.proofs.Common.{sym, ◌∙◌, append_assoc, length-take, length-append, get_or-append-add}
 use Prim.Native.Nat.{ℕ, zero, suc, ◌+◌, ◌-◌, ◌≤◌, ◌<◌}
@@ -11,9 +11,13 @@ use Rattle.std.proofs.Math.Seq.{get_or-take, get_or-drop, ext_get_or}
 use Rattle.std.proofs.lemmas.List.{take-append-le, drop-append-le}
 use borrow.Author.Tests.{lt-ltb, le-ltb, le-leb, lt-leb, eq-eqb, ne_eqb, leb-true}
 use Rattle.bisection.specs.Codes.{axis, minus, negated, turned, minus_on}
-use Rattle.bisection.proofs.Theorems.Lists.{shifted, shifted_before, shifted_at, shifted_past, shifted_length}
-use Rattle.bisection.proofs.Theorems.Axis.{Order, order, under, same, over}
-use Rattle.bisection.proofs.Theorems.Onto.{Taken, onto}
+use Rattle.bisection.specs.Theorems.Lists.{shifted}
+use Rattle.bisection.proofs.Theorems.Lists.{shifted_before, shifted_at, shifted_past, shifted_length}
+use Rattle.bisection.specs.Theorems.Axis.{Order, under, same, over}
+use Rattle.bisection.proofs.Theorems.Axis.{order}
+use Rattle.bisection.specs.Theorems.Onto.{Taken}
+use Rattle.bisection.proofs.Theorems.Onto.{onto}
+use Rattle.bisection.specs.Theorems.Entries.{Signed, Stands, source, target, unturned}
 
 -- an entry's sign and axis under a negation; an axis has fewer than 128 choices
 pub axis_negated : (e : ℕ) → axis e < 128 → axis (negated e) ≡ axis e
@@ -53,19 +57,6 @@ negated_negated e h = entry_same (negated (negated e)) e (axis_negated (negated 
     h' : axis (negated e) < 128
     h' = rw (axis_negated e h) h
 
--- a signed permutation of the axes 1..d
-pub record Signed (d : ℕ) (es : List ℕ) : Type 0 where
-  pub size : length es ≡ d
-  pub low : (i : ℕ) → i < d → 1 ≤ axis (get_or es i 0)
-  pub high : (i : ℕ) → i < d → axis (get_or es i 0) ≤ d
-  pub apart : (i j : ℕ) → i < d → j < d → axis (get_or es i 0) ≡ axis (get_or es j 0) → i ≡ j
-
--- every axis has an entry
-pub record Stands (es : List ℕ) (a d : ℕ) : Type 0 where
-  pub place : ℕ
-  pub below : place < d
-  pub is : axis (get_or es place 0) ≡ a
-
 pub stands : {d : ℕ} {es : List ℕ} → Signed d es → (a : ℕ) → 1 ≤ a → a ≤ d → Stands es a d
 stands {d} {es} s a h l = record { place = t.place; below = t.below; is = omega (arith, t.is, s.low t.place t.below) }
   where
@@ -103,10 +94,6 @@ module _ (n : ℕ) (es : List ℕ) (h : n < length es) where
   pub turned_length : length (turned (suc n) es) ≡ length es
   turned_length = rw (turned_shifted n es) (shifted_length 0 n (negated (get_or es 0 0)) es h)
 
--- the way back: entries 0..n-1 move one place on, entry n comes first, negated
-unfoldable pub unturned : ℕ → List ℕ → List ℕ
-unturned n es = negated (get_or es n 0) ∷ (take n es ++ drop (suc n) es)
-
 module _ (n : ℕ) (es : List ℕ) (h : n < length es) where
   front_length_is : length (take n es) ≡ n
   front_length_is = simp length-take (omega arith)
@@ -140,14 +127,6 @@ turned_append k (e ∷ es) rest h l = rw (take-append-le (k - 1) es rest (omega 
 pub unturned_append : (n : ℕ) (es rest : List ℕ) → n < length es → unturned n (es ++ rest) ≡ unturned n es ++ rest
 unfolding unturned
 unturned_append n es rest h = rw (get_or-append es rest 0 n h, take-append-le n es rest (omega arith), drop-append-le (suc n) es rest h) (ap (λ (l : List ℕ). negated (get_or es n 0) ∷ l) (sym (append_assoc (take n es) (drop (suc n) es) rest)))
-
--- the places under a turn: the entry at i came from `source n i`, and went to `target n i`
-unfoldable pub source : ℕ → ℕ → ℕ
-source n i = cond (ltb i n) (suc i) (cond (eqb i n) 0 i)
-
-unfoldable pub target : ℕ → ℕ → ℕ
-target n zero = n
-target n (suc i) = cond (ltb i n) i (suc i)
 
 module _ (n i : ℕ) where
   source_before : i < n → source n i ≡ suc i

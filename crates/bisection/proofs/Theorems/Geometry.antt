@@ -8,11 +8,15 @@ use Rattle.dimension.specs.Laws.{at_root, side_first, split_range, side_even, bo
 use Rattle.bisection.specs.Cells.{Cell, coordinate, vertex, root_cell, cell_of}
 use Rattle.bisection.specs.Roots.{GoodRoot}
 use Rattle.bisection.specs.Codes.{axis, minus, Name, root_name, name_of}
-use Rattle.bisection.proofs.Theorems.Axis.{closed, closed_near, closed_far, near, far, sides_even, Order, order, under, same, over}
-use Rattle.bisection.proofs.Theorems.Entries.{Signed, Stands, stands}
+use Rattle.bisection.specs.Theorems.Axis.{closed, near, far, Order, under, same, over}
+use Rattle.bisection.proofs.Theorems.Axis.{closed_near, closed_far, sides_even, order}
+use Rattle.bisection.specs.Theorems.Entries.{Signed, Stands}
+use Rattle.bisection.proofs.Theorems.Entries.{stands}
 use Rattle.bisection.proofs.Theorems.Paths.{plain_minus, plain_axis, root_passes}
-use Rattle.bisection.proofs.Theorems.Drawn.{Drawn, box_low, along, entry, drawn_root, drawn_below}
+use Rattle.bisection.specs.Theorems.Drawn.{Drawn, box_low, along, entry}
+use Rattle.bisection.proofs.Theorems.Drawn.{drawn_root, drawn_below}
 use Rattle.bisection.proofs.Theorems.CodePaths.{some_axes, few_axes, name_passes}
+use Rattle.bisection.specs.Theorems.Geometry.{Moves, Reading}
 
 -- the closed form of the vertices, with the box given by the orthant bytes
 pub closed_form : (root path : List ℕ) → GoodRoot root → length path ≤ greatest_depth (length root) → Drawn (length root) (length path) (name_of root path) (cell_of root path)
@@ -77,19 +81,9 @@ pub whole_midpoint : (root path : List ℕ) → GoodRoot root → length path < 
     → (coordinate (vertex (cell_of root path) 0) a + coordinate (vertex (cell_of root path) (split_place (length root) (length path))) a) % 2 ≡ 0
 whole_midpoint root path r h = split_even (some_axes r.dimension) h (name_passes r path).signed (closed_form root path r (omega arith))
 
--- from x to y by s, up for a plus and down for a minus
-abbrev pub Moves : Bool → ℕ → ℕ → ℕ → Type 0
-Moves false s x y = y ≡ x + s
-Moves true s x y = x ≡ y + s
-
 near_far : (n : Bool) (lo s : ℕ) → Moves n s (near lo s n) (far lo s n)
 near_far true lo s = refl
 near_far false lo s = refl
-
--- vertex j is vertex j - 1 moved by the box's side on the axis of entry j, by its sign, and on no other axis
-pub record Reading (d D : ℕ) (m : Name) (vs : Cell) (i : ℕ) : Type 0 where
-  pub on : Moves (minus (entry m i)) (box_side d D) (along vs (axis (entry m i)) i) (along vs (axis (entry m i)) (suc i))
-  pub off : (a : ℕ) → 1 ≤ a → a ≤ d → a ≢ axis (entry m i) → along vs a (suc i) ≡ along vs a i
 
 pub entry_reading : {d D : ℕ} {m : Name} {vs : Cell} → 0 < d → Signed d m.entries → Drawn d D m vs → (i : ℕ) → i < split_place d D → Reading d D m vs i
 entry_reading {d} {D} {m} {vs} d0 g r i h = record { on = rw (here, next) (near_far (minus (entry m i)) (low i) (box_side d D)); off = off }

@@ -8,11 +8,8 @@ use native.Mathlib.Omega.{arith}
 use Rattle.std.proofs.Math.ListN.{length, get_or, drop, length-drop, get_or-append}
 use Rattle.std.proofs.Math.Seq.{get_or-drop, get_or_at}
 use Rattle.std.proofs.lemmas.List.{set_split}
-use Rattle.bisection.specs.Cells.{Point, Cell, vertex, midpoint, child, point_bytes}
-
--- places 1..n go to 0..n-1, x stands at n, and what is past n stays
-unfoldable pub shifted : {A : Type 0} → ℕ → A → List A → List A
-shifted n x l = take n (drop 1 l) ++ x ∷ drop (suc n) l
+use Rattle.bisection.specs.Cells.{Cell, midpoint, child, point_bytes}
+use Rattle.bisection.specs.Theorems.Lists.{middle, shifted}
 
 module _ {A : Type 0} (z : A) (n : ℕ) (x : A) (l : List A) (h : n < length l) where
   front : List A
@@ -44,10 +41,6 @@ module _ {A : Type 0} (z : A) (n : ℕ) (x : A) (l : List A) (h : n < length l) 
   pub shifted_length : length (shifted n x l) ≡ length l
   unfolding shifted front
   shifted_length = simp (length-append, length-drop, front_length_is) (omega (arith, front_length_is))
-
--- the middle of the edge that is split; child 0 has it in the place of vertex k, child 1 is the cell shifted with it put behind
-abbrev pub middle : ℕ → Cell → Point
-middle k vs = midpoint (vertex vs 0) (vertex vs k)
 
 pub child_set : (k : ℕ) (vs : Cell) → k < length vs → child 0 k vs ≡ set vs k (middle k vs)
 unfolding child

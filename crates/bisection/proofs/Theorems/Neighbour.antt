@@ -7,26 +7,18 @@ use mathlib.Core.List.{List, [], Memᴰ}
 use Prim.Native.Nat.{ℕ, suc, ◌≤◌, ◌<◌}
 use Rattle.dimension.specs.Sizes.{split_place}
 use Rattle.bisection.specs.Cells.{Cell, vertex, cell_of}
-use Rattle.bisection.specs.Codes.{bytes, dimension_of, depth_of, parts_of}
+use Rattle.bisection.specs.Codes.{bytes, dimension_of, depth_of}
 use Rattle.bisection.specs.Facets.{facet, InFace, HasAll, IsCell, Shares, Across}
-use Rattle.bisection.proofs.Theorems.CodePaths.{root_of, path_of}
-use Rattle.bisection.proofs.Theorems.Table.{blocked, across_name, new_place}
+use Rattle.bisection.specs.Theorems.CodePaths.{root_of, path_of}
 use Rattle.bisection.proofs.Theorems.Crossing.Points.{place_mem, facet_part, facet_at, new_place_is}
-use Rattle.bisection.proofs.Theorems.Crossing.Skips.{Skipped, skipped}
+use Rattle.bisection.specs.Theorems.Crossing.Skips.{Skipped}
+use Rattle.bisection.proofs.Theorems.Crossing.Skips.{skipped}
 use Rattle.bisection.proofs.Theorems.CodeCells.{one_cell}
-use Rattle.bisection.proofs.Theorems.Crossing.Coded.{Coded, coded, coded_at, range}
-use Rattle.bisection.proofs.Theorems.Crossing.Shared.{Ends}
+use Rattle.bisection.specs.Theorems.Crossing.Coded.{Coded}
+use Rattle.bisection.proofs.Theorems.Crossing.Coded.{coded, coded_at, range}
+use Rattle.bisection.specs.Theorems.Crossing.Shared.{Ends}
 use Rattle.bisection.proofs.Theorems.Crossing.Beside.{face_blocked, blocked_face, face_same, Beside, beside}
-
--- the table's answer for facet i of a code
-abbrev pub is_blocked : List ℕ → ℕ → Bool
-is_blocked code i = blocked (dimension_of code) (depth_of code) i (parts_of code)
-
-abbrev pub table_code : List ℕ → ℕ → List ℕ
-table_code code i = bytes (dimension_of code) (depth_of code) (across_name (dimension_of code) (depth_of code) i (parts_of code))
-
-abbrev pub table_place : List ℕ → ℕ → ℕ
-table_place code i = new_place (dimension_of code) (depth_of code) i (parts_of code)
+use Rattle.bisection.specs.Theorems.Neighbour.{Neighbour, is_blocked, none, one, table_code, table_place}
 
 table_cell : List ℕ → ℕ → Cell
 table_cell code i = cell_of (root_of (table_code code i)) (path_of (table_code code i))
@@ -109,11 +101,6 @@ module _ {code : List ℕ} {vs : Cell} (c : IsCell code vs) (i : ℕ) (il : i �
 
   pub across_free : ¬ InFace (dimension_of code) (facet i vs) → Across code i (table_code code i) (table_place code i)
   across_free n = across_unblocked (free_unblocked n)
-
--- the two cases together, told by the table
-pub data Neighbour (code : List ℕ) (vs : Cell) (i : ℕ) : Bool → Type 0 where
-  none : InFace (dimension_of code) (facet i vs) → ((code' : List ℕ) → ¬ Shares i code code') → Neighbour code vs i true
-  one : ¬ InFace (dimension_of code) (facet i vs) → Across code i (table_code code i) (table_place code i) → Neighbour code vs i false
 
 pub neighbour : {code : List ℕ} {vs : Cell} → IsCell code vs → (i : ℕ) → i ≤ dimension_of code → Neighbour code vs i (is_blocked code i)
 neighbour {code} {vs} c i il = go (is_blocked code i) refl

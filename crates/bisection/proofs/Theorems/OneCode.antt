@@ -9,13 +9,16 @@ use Rattle.dimension.specs.Sizes.{halvings, greatest_depth, split_place, box_dep
 use Rattle.dimension.specs.Laws.{Side, side_of, split_range, box_in, side_same, side_pos, side_twice, depth_same}
 use Rattle.bisection.specs.Cells.{Cell, cell_of}
 use Rattle.bisection.specs.Codes.{axis, minus, high, Name, name_of, code_of, IsCodeOf}
-use Rattle.bisection.proofs.Theorems.Axis.{closed, closed_near, closed_far, closed_middle, near, far}
+use Rattle.bisection.specs.Theorems.Axis.{closed, near, far}
+use Rattle.bisection.proofs.Theorems.Axis.{closed_near, closed_far, closed_middle}
 use Rattle.bisection.proofs.Theorems.Orthants.{bits_same}
-use Rattle.bisection.proofs.Theorems.Entries.{Stands, stands, entry_same}
-use Rattle.bisection.proofs.Theorems.Passing.{Passes}
-use Rattle.bisection.proofs.Theorems.Drawn.{Drawn, box_low, along, entry}
+use Rattle.bisection.specs.Theorems.Entries.{Stands}
+use Rattle.bisection.proofs.Theorems.Entries.{stands, entry_same}
+use Rattle.bisection.specs.Theorems.Passing.{Passes}
+use Rattle.bisection.specs.Theorems.Drawn.{Drawn, box_low, along, entry}
 use Rattle.bisection.proofs.Theorems.CodePaths.{some_axes, name_passes}
 use Rattle.bisection.proofs.Theorems.Geometry.{closed_form}
+use Rattle.bisection.specs.Theorems.OneCode.{SameName}
 
 -- near, far and middle are three
 apart_middle : (lo s : ℕ) (n : Bool) → 0 < s → s % 2 ≡ 0 → lo + s / 2 ≢ near lo s n
@@ -132,10 +135,6 @@ low_tells a M (o ∷ os) (o' ∷ os') z h e t l =
     go : (t : ℕ) → t < length (o ∷ os) → high o a ≡ high o' a → ((t : ℕ) → t < length os → high (get_or os t 0) a ≡ high (get_or os' t 0) a) → high (get_or (o ∷ os) t 0) a ≡ high (get_or (o' ∷ os') t 0) a
     go zero l q r = q
     go (suc t) l q r = r t (omega arith)
-
-pub record SameName (d D D' : ℕ) (m m' : Name) : Type 0 where
-  pub depth : D ≡ D'
-  pub name : m ≡ m'
 
 module _ {d D D' : ℕ} {m m' : Name} {vs : Cell} (d0 : 0 < d) (h : D ≤ greatest_depth d) (h' : D' ≤ greatest_depth d)
     (p : Passes d D m) (p' : Passes d D' m') (r : Drawn d D m vs) (r' : Drawn d D' m' vs) where

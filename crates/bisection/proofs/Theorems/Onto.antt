@@ -1,14 +1,11 @@
 -- A map of the numbers below d into themselves that takes no value twice takes every value: otherwise the
 -- values but one, closed up, would fit d numbers into d - 1.
-use Rattle.std.specs.Prelude.{◌≡◌, cond, ◌≢◌, ℕ, zero, suc, ◌-◌, ◌≤◌, ◌<◌, ltb}
+use Rattle.std.specs.Prelude.{◌≡◌, ◌≢◌, ℕ, zero, suc, ◌-◌, ◌≤◌, ◌<◌}
 use Rattle.std.proofs.Common.{sym, subst}
 use native.Mathlib.Omega.{arith}
 use Rattle.std.proofs.Math.Decide.{dec_lt, ℕ_discrete}
 use borrow.Author.Tests.{lt-ltb, le-ltb}
-
--- the numbers but v, closed up
-unfoldable pub close : ℕ → ℕ → ℕ
-close v x = cond (ltb v x) (x - 1) x
+use Rattle.bisection.specs.Theorems.Onto.{Sought, Taken, close, found, none}
 
 module _ (v x : ℕ) where
   close_over : v < x → close v x ≡ x - 1
@@ -44,11 +41,6 @@ no_squeeze (suc m) f r inj = no_squeeze m (λ a. close (f (suc m)) (f a))
     other : (a : ℕ) → a ≤ m → f a ≢ f (suc m)
     other a l e = omega (arith, inj a (suc m) (omega arith) (omega arith) e)
 
--- where f takes the value v, below n
-pub data Sought (f : ℕ → ℕ) (v n : ℕ) : Type 0 where
-  found : (i : ℕ) → i < n → f i ≡ v → Sought f v n
-  none : ((i : ℕ) → i < n → f i ≢ v) → Sought f v n
-
 pub sought : (f : ℕ → ℕ) (v n : ℕ) → Sought f v n
 sought f v zero = none (λ i l. absurd (omega arith))
 sought f v (suc n) = go (ℕ_discrete (f n) v) (sought f v n)
@@ -61,11 +53,6 @@ sought f v (suc n) = go (ℕ_discrete (f n) v) (sought f v n)
         pick : (i : ℕ) → i < suc n → Dec (i ≡ n) → f i ≢ v
         pick i l (yes q) = subst (λ (j : ℕ). f j ≢ v) (sym q) e
         pick i l (no q) = h i (omega arith)
-
-pub record Taken (f : ℕ → ℕ) (v d : ℕ) : Type 0 where
-  pub place : ℕ
-  pub below : place < d
-  pub is : f place ≡ v
 
 pub onto : (d : ℕ) (f : ℕ → ℕ) → ((i : ℕ) → i < d → f i < d) → ((i j : ℕ) → i < d → j < d → f i ≡ f j → i ≡ j) → (v : ℕ) → v < d → Taken f v d
 onto d f r inj v h = go (sought f v d)

@@ -1,12 +1,12 @@
 -- What a name (entries and orthants) must be to be a cell's at depth D, for every dimension d: the step rule
 -- keeps it, and every such name but a root's is the step of exactly one, found by the sign of entry k.
-use Rattle.std.specs.Prelude.{◌≡◌, Bool, not, eqb, length, get_or, take}
+use Rattle.std.specs.Prelude.{◌≡◌, Bool, not, eqb, get_or, take}
 use Rattle.std.proofs.Math.Path.{refl}
 use Rattle.std.proofs.Common.{sym, ap, ◌∙◌, subst, length-take, length-append, get_or-take, take-suc, take_all, take_at}
 use Rattle.std.proofs.Math.Bool.{true, false, cond}
 use mathlib.Core.List.{List, [], ◌∷◌, ◌++◌}
 use Rattle.std.proofs.Math.Logic.{⊎_elim}
-use Prim.Native.Nat.{ℕ, zero, suc, ◌-◌, ◌^◌, ◌≤◌, ◌<◌}
+use Prim.Native.Nat.{ℕ, zero, suc, ◌^◌, ◌≤◌, ◌<◌}
 use native.Mathlib.Omega.{arith}
 use Rattle.std.proofs.Math.Decide.{dec_lt, ℕ_discrete}
 use Rattle.std.proofs.Math.ListN.{get_or-append}
@@ -16,21 +16,9 @@ use Rattle.dimension.specs.Laws.{Within, Turned, deeper, split_range}
 use Rattle.bisection.specs.Codes.{axis, minus, stepped, high, orthant, Name, step}
 use Rattle.bisection.specs.Refusals.{own_minus, same_sign}
 use Rattle.bisection.proofs.Theorems.Orthants.{orthant_to_fits, orthant_to_high, bits_same, own_snoc}
-use Rattle.bisection.proofs.Theorems.Entries.{Signed, Stands, stands, minus_on_entry, axis_negated, minus_negated, turned_before, turned_at, unturned, unturned_moved, signed_turned, signed_unturned, turned_unturned, unturned_turned}
-
--- the entries i below k carry the box's own sign
-pub record Own (k : ℕ) (es os : List ℕ) : Type 0 where
-  pub sign : (i : ℕ) → i < k → minus (get_or es i 0) ≡ own_minus os (axis (get_or es i 0))
-
--- an orthant list for boxes halved L times
-pub record Boxes (d L : ℕ) (os : List ℕ) : Type 0 where
-  pub count : length os ≡ L
-  pub fit : (t : ℕ) → t < L → get_or os t 0 < 2 ^ d
-
-pub record Passes (d D : ℕ) (n : Name) : Type 0 where
-  pub signed : Signed d n.entries
-  pub boxes : Boxes d (box_depth d D) n.orthants
-  pub own : Own (split_place d D) n.entries n.orthants
+use Rattle.bisection.specs.Theorems.Entries.{Signed, Stands, unturned}
+use Rattle.bisection.proofs.Theorems.Entries.{stands, minus_on_entry, axis_negated, minus_negated, turned_before, turned_at, unturned_moved, signed_turned, signed_unturned, turned_unturned, unturned_turned}
+use Rattle.bisection.specs.Theorems.Passing.{Boxes, Own, Passes, fewer, last_step, parent_name, split_entry, unstepped}
 
 -- the orthant of a signed permutation
 module _ {d : ℕ} {es : List ℕ} (s : Signed d es) where
@@ -78,26 +66,6 @@ module _ {d : ℕ} {es : List ℕ} (s : Signed d es) (n : ℕ) (h : n < d) (smal
 -- a new box has the signs of the permutation that made it
 pub own_new : {d : ℕ} {es : List ℕ} → Signed d es → (os : List ℕ) → Own d es (os ++ orthant es ∷ [])
 own_new {d} {es} s os = record { sign = λ i l. sym (own_snoc os (orthant es) (axis (get_or es i 0)) ∙ orthant_high s i l) }
-
--- the place, from 0, of entry k at depth D
-abbrev pub split_entry : ℕ → ℕ → ℕ
-split_entry d D = split_place d D - 1
-
--- the parent, of a name at depth D + 1. Its orthants: where a new box was begun, the last one goes
-unfoldable pub fewer : ℕ → ℕ → List ℕ → List ℕ
-fewer d D os = take (box_depth d D) os
-
--- the last step: 0 when entry k carries the own sign of the parent's box
-unfoldable pub last_step : ℕ → ℕ → Name → ℕ
-last_step d D m = cond (same_sign (minus (get_or m.entries (split_entry d D) 0)) (own_minus (fewer d D m.orthants) (axis (get_or m.entries (split_entry d D) 0)))) 0 1
-
--- child 0 kept the entries, child 1 turned them
-unfoldable pub unstepped : ℕ → ℕ → List ℕ → List ℕ
-unstepped zero n es = es
-unstepped (suc b) n es = unturned n es
-
-unfoldable pub parent_name : ℕ → ℕ → Name → Name
-parent_name d D m = record { entries = unstepped (last_step d D m) (split_entry d D) m.entries; orthants = fewer d D m.orthants }
 
 name_same : {m n : Name} → m.entries ≡ n.entries → m.orthants ≡ n.orthants → m ≡ n
 name_same p q = λ i. record { entries = p i; orthants = q i }

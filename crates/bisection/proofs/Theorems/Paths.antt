@@ -14,24 +14,13 @@ use Rattle.dimension.specs.Laws.{at_root}
 use Rattle.bisection.specs.Roots.{Permutation}
 use Rattle.bisection.specs.Codes.{axis, minus, high, Name, step, root_name, name_below}
 use Rattle.bisection.specs.Refusals.{own_minus}
-use Rattle.bisection.proofs.Theorems.Passing.{Passes, last_step, parent_name, step_passes, last_step_is, parent_step, parent_passes, step_parent, last_small}
-
--- the way up from a name at depth D: its steps, and the root
-unfoldable pub path_to : ℕ → ℕ → Name → List ℕ
-path_to d zero m = []
-path_to d (suc D) m = path_to d D (parent_name d D m) ++ last_step d D m ∷ []
+use Rattle.bisection.specs.Theorems.Passing.{Passes, last_step, parent_name}
+use Rattle.bisection.proofs.Theorems.Passing.{step_passes, last_step_is, parent_step, parent_passes, step_parent, last_small}
+use Rattle.bisection.specs.Theorems.Paths.{RootName, Steps, path_to, root_to}
 
 pub path_suc : (d D : ℕ) (m : Name) → path_to d (suc D) m ≡ path_to d D (parent_name d D m) ++ last_step d D m ∷ []
 unfolding path_to
 path_suc d D m = refl
-
-unfoldable pub root_to : ℕ → ℕ → Name → List ℕ
-root_to d zero m = m.entries
-root_to d (suc D) m = root_to d D (parent_name d D m)
-
--- the steps of a path are bytes 0 and 1
-pub record Steps (path : List ℕ) : Type 0 where
-  pub small : (i : ℕ) → i < length path → get_or path i 0 ≤ 1
 
 pub steps_rest : {b : ℕ} {path : List ℕ} → Steps (b ∷ path) → Steps path
 steps_rest s = record { small = λ i l. s.small (suc i) (omega arith) }
@@ -73,12 +62,6 @@ root_passes root d0 small p = record {
 
     is : (i : ℕ) → i < length root → axis (get_or root i 0) ≡ get_or root i 0
     is i l = plain_axis (get_or root i 0) (plain i l)
-
--- at depth 0 a name is a root's
-pub record RootName (d : ℕ) (m : Name) : Type 0 where
-  pub size : length m.entries ≡ d
-  pub permutation : Permutation m.entries
-  pub none : m ≡ root_name m.entries
 
 empty : (os : List ℕ) → length os ≡ 0 → os ≡ []
 empty [] e = refl

@@ -10,7 +10,8 @@ use borrow.Author.Tests.{leb-true, le-leb, eqb-true, eq-eqb}
 use Rattle.dimension.specs.Sizes.{is_dimension, code_length}
 use Rattle.bisection.specs.Codes.{IsCodeOf, dimension_of, depth_of}
 use Rattle.bisection.specs.Refusals.{done, head_refusal, length_of, body_refusal, code_refusal}
-use Rattle.bisection.proofs.Theorems.Ladders.{first_is, holds, past, own_last, held_at}
+use Rattle.bisection.specs.Theorems.Ladders.{holds, past}
+use Rattle.bisection.proofs.Theorems.Ladders.{first_is, own_last, held_at}
 use Rattle.bisection.proofs.Theorems.CodePaths.{length_root, length_path_of}
 use Rattle.codes.specs.Fronts.{front_refusal, front_dimension, front_depth, front_length, front_code, inner_refusal, Headed}
 

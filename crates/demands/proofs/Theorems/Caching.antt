@@ -10,12 +10,15 @@ use Rattle.bisection.specs.Codes.{dimension_of, depth_of}
 use Rattle.bisection.specs.Refusals.{done, refused_face}
 use Rattle.bisection.specs.Facets.{facet, IsCell, Across}
 use Rattle.bisection.specs.Weights.{LiesInside}
-use Rattle.bisection.proofs.Theorems.Ladders.{first_is, holds, past, all_hold, held_at}
+use Rattle.bisection.specs.Theorems.Ladders.{holds, past, all_hold}
+use Rattle.bisection.proofs.Theorems.Ladders.{first_is, held_at}
 use Rattle.bisection.proofs.Theorems.CodeCells.{one_cell, same_code, cell_passes}
-use Rattle.bisection.proofs.Theorems.Crossing.Shared.{Ends}
+use Rattle.bisection.specs.Theorems.Crossing.Shared.{Ends}
 use Rattle.bisection.proofs.Theorems.Neighbour.{across_ends, across_determined}
-use Rattle.bisection.proofs.Theorems.Splitting.Agreement.{code_of_child, child_dimension, child_depth, child_is_cell, number_across, number_kept, number_changed, number_small, ChildAcross}
-use Rattle.bisection.proofs.Theorems.Splitting.Changes.{TwoChildren, place_changes}
+use Rattle.bisection.specs.Theorems.Splitting.Agreement.{number_across, ChildAcross}
+use Rattle.bisection.proofs.Theorems.Splitting.Agreement.{code_of_child, child_dimension, child_depth, child_is_cell, number_kept, number_changed, number_small}
+use Rattle.bisection.specs.Theorems.Splitting.Changes.{TwoChildren}
+use Rattle.bisection.proofs.Theorems.Splitting.Changes.{place_changes}
 use Rattle.codes.specs.declared.Written.{Written}
 use Rattle.codes.specs.Outcomes.{child_refusal, Child}
 use Rattle.crossing.specs.declared.Crossed.{Crossed}

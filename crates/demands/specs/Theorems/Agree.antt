@@ -6,7 +6,8 @@ use Rattle.bisection.specs.Codes.{dimension_of, depth_of}
 use Rattle.bisection.specs.Facets.{facet, IsCell, Across}
 use Rattle.bisection.specs.Weights.{LiesInside}
 use Rattle.bisection.proofs.Theorems.Neighbour.{across_free}
-use Rattle.bisection.proofs.Theorems.Splitting.Agreement.{number_across, number_small, ChildAcross, agree_face, agree_alone, agree_across}
+use Rattle.bisection.specs.Theorems.Splitting.Agreement.{number_across, ChildAcross}
+use Rattle.bisection.proofs.Theorems.Splitting.Agreement.{number_small, agree_face, agree_alone, agree_across}
 use Rattle.demands.specs.Agree.{Split, AcrossBoth, Agrees, Agree}
 
 module _ {code : List ℕ} {vs : Cell} {b : ℕ} {child_code : List ℕ} {us : Cell} (s : Split code vs b child_code us) {i j : ℕ} (il : i ≤ dimension_of code) (jl : j ≤ dimension_of code)

@@ -6,8 +6,10 @@ use Rattle.bisection.specs.Cells.{Cell, child}
 use Rattle.bisection.specs.Codes.{dimension_of, depth_of}
 use Rattle.bisection.specs.Facets.{Across}
 use Rattle.bisection.proofs.Theorems.Crossing.Coded.{coded, range}
-use Rattle.bisection.proofs.Theorems.Splitting.Children.{kept_at, kept_in}
-use Rattle.bisection.proofs.Theorems.Splitting.Siblings.{shared_outside, OneHolder, one_holder, sibling_across}
+use Rattle.bisection.specs.Theorems.Splitting.Children.{kept_at}
+use Rattle.bisection.proofs.Theorems.Splitting.Children.{kept_in}
+use Rattle.bisection.specs.Theorems.Splitting.Siblings.{OneHolder}
+use Rattle.bisection.proofs.Theorems.Splitting.Siblings.{shared_outside, one_holder, sibling_across}
 use Rattle.demands.specs.Agree.{Split}
 use Rattle.demands.specs.ChildFacets.{InsideOne, SharedAt, Facets, ChildFacets}
 

@@ -5,9 +5,9 @@ use Rattle.dimension.specs.Sizes.{is_dimension, halvings, cube_side, greatest_de
 use Rattle.bisection.specs.Cells.{moved, corners, root_cell, cell_below, cell_of}
 use Rattle.bisection.specs.Codes.{minus, axis, negated, turned, stepped, high, minus_on, orthant_to, orthant, step, name_below, name_of, bytes, code_of, dimension_of, depth_of, entries_of, orthants_of, parts_of}
 use Rattle.bisection.specs.Refusals.{done, first_refusal, each, fresh, permutes, orthants_fit, own_minus, signs_own, head_refusal, length_of, body_refusal, code_refusal, is_root, is_path}
-use Rattle.bisection.proofs.Theorems.Table.{move, new_at, exchanged, negated_at, entries_by, flipped, runs_out, carried, orthants_by, blocked_by, next_own, move_of, blocked, across_name, new_place}
-use Rattle.bisection.proofs.Theorems.Paths.{root_to, path_to}
-use Rattle.bisection.proofs.Theorems.CodePaths.{root_of, path_of}
+use Rattle.bisection.specs.Theorems.Table.{move, new_at, exchanged, negated_at, entries_by, flipped, runs_out, carried, orthants_by, blocked_by, next_own, move_of, blocked, across_name, new_place}
+use Rattle.bisection.specs.Theorems.Paths.{root_to, path_to}
+use Rattle.bisection.specs.Theorems.CodePaths.{root_of, path_of}
 use Rattle.codes.specs.declared.Written.{Written}
 use Rattle.codes.specs.declared.PathWritten.{PathWritten}
 use Rattle.codes.specs.Outcomes.{PathToCode, to_path_refusal, CodeToPath}

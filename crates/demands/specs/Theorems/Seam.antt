@@ -9,7 +9,8 @@ use Rattle.sheets.specs.Sheets.{leaf_in, Good, sheet_good}
 use Rattle.finding.specs.Theorems.OneOfThree.{CellOf}
 use Rattle.rings.specs.Compatible.{vertices_of, OneHasFacet, Compatible}
 use Rattle.rings.specs.Rings.{IsLeaf, LeadsTo, Sharer, child_1, child_0}
-use Rattle.rings.proofs.Theorems.Cells.{has_across, level, apart, last_small, LeadsSomewhere, free_leads}
+use Rattle.rings.specs.Theorems.Cells.{LeadsSomewhere}
+use Rattle.rings.proofs.Theorems.Cells.{has_across, level, apart, last_small, free_leads}
 use Rattle.rings.proofs.Theorems.Lying.{one_below}
 use Rattle.rings.proofs.Theorems.Leaves.{leaf_real, one_number, Stands, a_leaf, in_leaf, a_split, stands}
 use Rattle.rings.proofs.Theorems.Forms.{forms}

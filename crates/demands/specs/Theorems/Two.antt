@@ -13,7 +13,8 @@ use Rattle.bisection.proofs.Theorems.Checked.{each_at}
 use Rattle.bisection.proofs.Theorems.Geometry.{closed_form}
 use Rattle.bisection.proofs.Theorems.CodePaths.{one_path}
 use Rattle.bisection.proofs.Theorems.CodeCells.{one_cell, same_code}
-use Rattle.bisection.proofs.Theorems.Slopes.One.{OneSlope, one_slope}
+use Rattle.bisection.specs.Theorems.Slopes.One.{OneSlope}
+use Rattle.bisection.proofs.Theorems.Slopes.One.{one_slope}
 use Rattle.codes.specs.declared.Written.{Written}
 use Rattle.codes.specs.declared.PathWritten.{PathWritten}
 use Rattle.codes.specs.Outcomes.{Writes, path_refusal, PathToCode, CodeToPath, PathOf, Vertices, child_refusal, Child, Parent}

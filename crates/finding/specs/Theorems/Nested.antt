@@ -7,7 +7,8 @@ use Rattle.std.proofs.Math.Decide.{dec_lt}
 use Rattle.std.proofs.Common.{mul-le-mul_right, get_or-append-add, pow_pos}
 use Rattle.std.proofs.Math.ListN.{length, length-append}
 use Rattle.std.proofs.Math.Pow.{pow-lt}
-use Rattle.bisection.proofs.Theorems.Paths.{Steps, steps_rest}
+use Rattle.bisection.specs.Theorems.Paths.{Steps}
+use Rattle.bisection.proofs.Theorems.Paths.{steps_rest}
 use Rattle.positions.specs.Positions.{start_of, size_of}
 use Rattle.finding.specs.Sizes.{start_joined}
 

@@ -5,7 +5,7 @@ use Rattle.std.proofs.Common.{sym, ap, ◌∙◌, subst, append-nil, arith, mul-
 use Rattle.std.proofs.Math.Decide.{dec_lt}
 use Rattle.dimension.specs.Sizes.{greatest_depth}
 use Rattle.bisection.specs.Roots.{roots}
-use Rattle.bisection.proofs.Theorems.Paths.{Steps}
+use Rattle.bisection.specs.Theorems.Paths.{Steps}
 use Rattle.positions.specs.Positions.{start_of, size_of}
 use Rattle.positions.specs.RootNumbers.{number_in, numbered}
 use Rattle.sheets.specs.Forests.{TreeCell, tree_cell}

@@ -2,8 +2,8 @@
 use mathlib.Core.Path.{refl}
 use native.Mathlib.Omega.{arith}
 use Rattle.bisection.specs.Codes.{minus, negated, turned}
-use Rattle.bisection.proofs.Theorems.Entries.{unturned}
-use Rattle.bisection.proofs.Theorems.Table.{new_at, exchanged, negated_at, entries_by}
+use Rattle.bisection.specs.Theorems.Entries.{unturned}
+use Rattle.bisection.specs.Theorems.Table.{new_at, exchanged, negated_at, entries_by}
 use Rattle.entries.specs.Words.{word_of}
 use Rattle.moves.specs.Rearranging.{within, row_of, row_at}
 use Rattle.moves.proofs.row.Goals as goal

@@ -14,10 +14,15 @@ use Rattle.bisection.proofs.Theorems.CodePaths.{some_axes}
 use Rattle.bisection.proofs.Theorems.Geometry.{closed_form}
 use Rattle.bisection.specs.Weights.{sum_to, Weighs}
 use Rattle.bisection.proofs.Theorems.Weights.Sums.{sum_same, sum_scale}
-use Rattle.bisection.proofs.Theorems.Weights.Axes.{Axes, list_of, axes_list, weight_most}
-use Rattle.points.proofs.Theorems.Halving.{down, low_down_last, low_down_other, high_down_last, high_down_past}
-use Rattle.points.proofs.Theorems.RootCells.{root_weight, inside_falls, falls_axes}
-use Rattle.points.proofs.Theorems.Cells.{In, CellAxes, split_of, one_longer, by_steps, step_down, in_parent, half_fits, weights_scaled, weights_one}
+use Rattle.bisection.specs.Theorems.Weights.Axes.{Axes, list_of}
+use Rattle.bisection.proofs.Theorems.Weights.Axes.{axes_list, weight_most}
+use Rattle.points.specs.Theorems.Halving.{down}
+use Rattle.points.proofs.Theorems.Halving.{low_down_last, low_down_other, high_down_last, high_down_past}
+use Rattle.points.specs.Theorems.RootCells.{root_weight}
+use Rattle.points.proofs.Theorems.RootCells.{inside_falls, falls_axes}
+use Rattle.points.specs.Theorems.Cells.{In, CellAxes, split_of}
+use Rattle.points.proofs.Theorems.Cells.{one_longer, by_steps, step_down, in_parent, half_fits, weights_scaled, weights_one}
+use Rattle.points.specs.Theorems.BoxWeights.{BoxWeights, side_of}
 
 down_even : (b k d : ℕ) (w : ℕ → ℕ) → 1 ≤ k → ((j : ℕ) → k < j → j ≤ d → w j % 2 ≡ 0) → (j : ℕ) → k ≤ j → j ≤ d → down b k w j % 2 ≡ 0
 down_even b k d w k1 even j l h = go b (ℕ_discrete j k)
@@ -39,16 +44,6 @@ axes_halved {d} {W} {y} {p} w u e h = record {
   means = λ a l m. eq_of_mul-eq-mul_left 2 (omega arith) _ _ (sym (sum_same (suc d) (λ j. w j * y a j) (λ j. 2 * (u j * y a j)) (λ j i. rw (e j (omega arith)) (omega arith))
       ∙ sum_scale 2 (suc d) (λ j. u j * y a j)) ∙ h.means a l m ∙ omega arith);
 }
-
-abbrev pub side_of : List ℕ → List ℕ → ℕ
-side_of root path = box_side (length root) (length path)
-
--- document 01's weights: of sum s, each at most s, and the only ones
-pub record BoxWeights (root path : List ℕ) (p : Point) : Type 0 where
-  pub ws : List ℕ
-  pub weighs : Weighs (cell_of root path) p (side_of root path) ws
-  pub most : (j : ℕ) → get_or ws j 0 ≤ side_of root path
-  pub others : {us : List ℕ} → Weighs (cell_of root path) p (side_of root path) us → us ≡ ws
 
 -- weights at depth D, even past the split place
 record Even (root path : List ℕ) (p : Point) (D : ℕ) : Type 0 where

@@ -5,19 +5,23 @@ use Rattle.std.specs.Prelude.{◌≡◌, List, [], ◌∷◌, ◌++◌, ◌⊎�
 use Rattle.std.proofs.Common.{sym, ◌∙◌, subst, append_assoc, append-nil, inl, inr, arith, mul-le-mul_left, length-append, ext_get_or}
 use Rattle.std.proofs.Math.Nat.{le_of_mul-le-mul_left, eq_of_mul-eq-mul_left}
 use Rattle.std.proofs.Math.Decide.{dec_le}
-use Rattle.dimension.specs.Sizes.{cube_side, greatest_depth, split_place}
+use Rattle.dimension.specs.Sizes.{cube_side, greatest_depth}
 use Rattle.dimension.specs.Laws.{split_range}
 use Rattle.bisection.specs.Cells.{Point, coordinate, cell_of}
 use Rattle.bisection.specs.Roots.{GoodRoot}
-use Rattle.bisection.proofs.Theorems.Drawn.{Sized, along}
+use Rattle.bisection.specs.Theorems.Drawn.{Sized, along}
 use Rattle.bisection.proofs.Theorems.CodePaths.{some_axes, name_passes}
 use Rattle.bisection.proofs.Theorems.CellChildren.{cell_of_child}
 use Rattle.bisection.proofs.Theorems.Geometry.{closed_form, whole_midpoint}
-use Rattle.bisection.specs.Weights.{sum_to, Weighs, Inside}
-use Rattle.bisection.proofs.Theorems.Weights.Axes.{mean, Axes, list_of, weighs_axes, axes_list, axes_inside}
+use Rattle.bisection.specs.Weights.{sum_to, Weighs}
+use Rattle.bisection.specs.Theorems.Weights.Axes.{mean, list_of}
+use Rattle.bisection.proofs.Theorems.Weights.Axes.{weighs_axes, axes_list, axes_inside}
 use Rattle.bisection.proofs.Theorems.Weights.Independent.{axes_one, axes_scaled}
-use Rattle.points.proofs.Theorems.Halving.{up, Fits, up_fits, down, Splits, half_mean, half_sum, axes_up, axes_down}
-use Rattle.points.proofs.Theorems.RootCells.{Falls, dec_falls, inside_falls, falls_inside}
+use Rattle.points.specs.Theorems.Halving.{up, Fits, down, Splits}
+use Rattle.points.proofs.Theorems.Halving.{up_fits, half_mean, half_sum, axes_up, axes_down}
+use Rattle.points.specs.Theorems.RootCells.{Falls}
+use Rattle.points.proofs.Theorems.RootCells.{dec_falls, inside_falls, falls_inside}
+use Rattle.points.specs.Theorems.Cells.{CellAxes, In, split_of}
 
 pub one_longer : (path : List ℕ) (b : ℕ) → length (path ++ b ∷ []) ≡ suc (length path)
 one_longer path b = simp length-append (omega arith)
@@ -30,16 +34,6 @@ fits_scaled (suc b) k c C w v l e f = le_of_mul-le-mul_left {m = w 0} {n = w k} 
 dec_fits : (b k : ℕ) (w : ℕ → ℕ) → Dec (Fits b k w)
 dec_fits zero k w = dec_le (w k) (w 0)
 dec_fits (suc b) k w = dec_le (w 0) (w k)
-
--- a point in the cell of a path, its weights there as a function, and the split place
-abbrev pub In : List ℕ → Point → List ℕ → Type 0
-In root p path = Inside (cell_of root path) p
-
-abbrev pub CellAxes : List ℕ → Point → List ℕ → ℕ → (ℕ → ℕ) → Type 0
-CellAxes root p path W w = Axes (length root) (along (cell_of root path)) p W w
-
-abbrev pub split_of : List ℕ → List ℕ → ℕ
-split_of root path = split_place (length root) (length path)
 
 module _ (root : List ℕ) (good : GoodRoot root) where
   abbrev n : ℕ

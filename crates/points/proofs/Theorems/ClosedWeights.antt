@@ -16,14 +16,18 @@ use Rattle.dimension.specs.Laws.{split_range, side_of}
 use Rattle.bisection.specs.Cells.{Point, coordinate, cell_of}
 use Rattle.bisection.specs.Roots.{GoodRoot}
 use Rattle.bisection.specs.Codes.{axis, minus, name_of}
-use Rattle.bisection.proofs.Theorems.Entries.{Signed, Stands, stands}
-use Rattle.bisection.proofs.Theorems.Drawn.{Drawn, along}
+use Rattle.bisection.specs.Theorems.Entries.{Signed, Stands}
+use Rattle.bisection.proofs.Theorems.Entries.{stands}
+use Rattle.bisection.specs.Theorems.Drawn.{Drawn, along}
 use Rattle.bisection.proofs.Theorems.CodePaths.{some_axes, name_passes}
-use Rattle.bisection.proofs.Theorems.Geometry.{closed_form, Moves}
+use Rattle.bisection.specs.Theorems.Geometry.{Moves}
+use Rattle.bisection.proofs.Theorems.Geometry.{closed_form}
 use Rattle.bisection.specs.Weights.{sum_to, Weighs, Inside}
 use Rattle.bisection.proofs.Theorems.Weights.Sums.{sum_rises}
-use Rattle.bisection.proofs.Theorems.Weights.Axes.{mean, Axes, axes_list, weighs_axes}
-use Rattle.bisection.proofs.Theorems.Weights.Offsets.{top, offset, offset_mean, mean_along}
+use Rattle.bisection.specs.Theorems.Weights.Axes.{mean, Axes}
+use Rattle.bisection.proofs.Theorems.Weights.Axes.{axes_list, weighs_axes}
+use Rattle.bisection.specs.Theorems.Weights.Offsets.{top}
+use Rattle.bisection.proofs.Theorems.Weights.Offsets.{offset, offset_mean, mean_along}
 use Rattle.points.specs.ClosedForm.{gap, entry_of, start_at, point_at, distance, weight_at, closed_weights, Natural}
 use Rattle.points.proofs.Theorems.Cells.{weights_one}
 use Rattle.points.proofs.Theorems.BoxWeights.{box_weights}

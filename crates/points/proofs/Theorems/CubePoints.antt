@@ -1,5 +1,5 @@
 -- Points that pass the test of a query are points of the cube, and a coordinate is its two bytes.
-use Rattle.std.specs.Prelude.{◌≡◌, refl, Bool, true, List, [], ◌∷◌, ℕ, zero, suc, ◌+◌, ◌-◌, ◌*◌, ◌≤◌, ◌<◌, eqb, leb, length, get_or}
+use Rattle.std.specs.Prelude.{◌≡◌, refl, true, List, [], ◌∷◌, ℕ, zero, suc, ◌+◌, ◌-◌, ◌*◌, ◌≤◌, ◌<◌, eqb, length, get_or}
 use Rattle.std.proofs.Common.{ap, arith}
 use borrow.Author.Tests.{leb-true, eqb-true}
 use Rattle.dimension.specs.Sizes.{cube_side}
@@ -7,10 +7,7 @@ use Rattle.bisection.specs.Cells.{coordinate}
 use Rattle.bisection.specs.Refusals.{each}
 use Rattle.bisection.proofs.Theorems.Checked.{both, each_at}
 use Rattle.points.specs.Points.{point_of, is_point, InCube}
-
--- the test of coordinate i + 1
-abbrev pub in_range : List ℕ → ℕ → Bool
-in_range bytes i = leb (get_or (point_of bytes) i 0) cube_side
+use Rattle.points.specs.Theorems.CubePoints.{in_range}
 
 point_length : (d : ℕ) (bytes : List ℕ) → length bytes ≡ 2 * d → length (point_of bytes) ≡ d
 unfolding point_of

@@ -1,31 +1,27 @@
 -- The weights in a cell and those in its halves. With k the split place, weights u in a half give weights in the cell, of twice the
 -- sum: each counts twice, and that of the midpoint once at either end of the edge that it halves. So a point of a half is one of the
 -- cell, and weights in the cell that are twice w give back those in the half that the larger of w0 and wk tells.
-use Rattle.std.specs.Prelude.{◌≡◌, cond, eqb, ltb}
+use Rattle.std.specs.Prelude.{◌≡◌}
 use Rattle.std.proofs.Math.Path.{refl, ap}
 use Rattle.std.proofs.Common.{sym, ◌∙◌}
-use Prim.Native.Nat.{ℕ, zero, suc, ◌+◌, ◌-◌, ◌*◌, ◌%◌, ◌≤◌, ◌<◌}
+use Prim.Native.Nat.{ℕ, zero, suc, ◌+◌, ◌-◌, ◌*◌, ◌≤◌, ◌<◌}
 use native.Mathlib.Omega.{arith}
 use Rattle.std.proofs.Math.Nat.{eq_of_mul-eq-mul_left}
 use Rattle.std.proofs.Math.Decide.{ℕ_discrete}
 use borrow.Author.Tests.{eq-eqb, ne_eqb, lt-ltb, le-ltb}
 use Rattle.bisection.specs.Cells.{Point, Cell, child}
-use Rattle.bisection.proofs.Theorems.Axis.{mid, row0, row0_at, row0_other, row1, row1_before, row1_at, row1_past, Order, order, under, same, over}
-use Rattle.bisection.proofs.Theorems.Drawn.{Sized, along, child0_along, child1_along}
+use Rattle.bisection.specs.Theorems.Axis.{mid, row0, row1, Order, under, same, over}
+use Rattle.bisection.proofs.Theorems.Axis.{row0_at, row0_other, row1_before, row1_at, row1_past, order}
+use Rattle.bisection.specs.Theorems.Drawn.{along}
+use Rattle.bisection.proofs.Theorems.Drawn.{child0_along, child1_along}
 use Rattle.bisection.specs.Weights.{sum_to}
-use Rattle.bisection.proofs.Theorems.Weights.Sums.{sum_same, sum_scale, only, only_at, only_other}
-use Rattle.bisection.proofs.Theorems.Weights.Axes.{mean, Axes, mean_same}
-use Rattle.points.proofs.Theorems.Sums.{sum_moved, turn, turn_before, turn_at, turn_past, sum_turn}
-
--- the weights in the cell
-unfoldable pub up : ℕ → ℕ → (ℕ → ℕ) → ℕ → ℕ
-up zero k u j = cond (eqb j 0) (2 * u 0 + u k) (cond (eqb j k) (u k) (2 * u j))
-up (suc b) k u j = cond (eqb j 0) (u k) (cond (eqb j k) (2 * u (k - 1) + u k) (cond (ltb j k) (2 * u (j - 1)) (2 * u j)))
-
--- the half's coordinates
-unfoldable pub row : ℕ → ℕ → (ℕ → ℕ) → ℕ → ℕ
-row zero k r = row0 k r
-row (suc b) k r = row1 k r
+use Rattle.bisection.specs.Theorems.Weights.Sums.{only}
+use Rattle.bisection.proofs.Theorems.Weights.Sums.{sum_same, sum_scale, only_at, only_other}
+use Rattle.bisection.specs.Theorems.Weights.Axes.{mean, Axes}
+use Rattle.bisection.proofs.Theorems.Weights.Axes.{mean_same}
+use Rattle.points.specs.Theorems.Sums.{turn}
+use Rattle.points.proofs.Theorems.Sums.{sum_moved, turn_before, turn_at, turn_past, sum_turn}
+use Rattle.points.specs.Theorems.Halving.{Fits, Splits, down, row, up}
 
 module _ (b k : ℕ) (k1 : 1 ≤ k) (u : ℕ → ℕ) where
   low_first : up 0 k u 0 ≡ 2 * u 0 + u k
@@ -110,15 +106,6 @@ mean_ones d w r e = sum_same (suc d) (λ j. w j * r j) w (λ j l. rw (e j) (omeg
 sum_up : (d k : ℕ) → 1 ≤ k → k ≤ d → (u : ℕ → ℕ) (b : ℕ) → sum_to (suc d) (up b k u) ≡ 2 * sum_to (suc d) u
 sum_up d k k1 kd u b = omega (arith, mean_up d k k1 kd u ones refl b, mean_ones d (up b k u) ones (λ j. refl), mean_ones d u (row b k ones) (row_ones b k))
 
--- the weights in a half: in child 0 where wk is at most w0, in child 1 where w0 is at most wk
-abbrev pub Fits : ℕ → ℕ → (ℕ → ℕ) → Type 0
-Fits zero k w = w k ≤ w 0
-Fits (suc b) k w = w 0 ≤ w k
-
-unfoldable pub down : ℕ → ℕ → (ℕ → ℕ) → ℕ → ℕ
-down zero k w j = cond (eqb j 0) (w 0 - w k) (cond (eqb j k) (2 * w k) (w j))
-down (suc b) k w j = cond (ltb j k) (cond (eqb (suc j) k) (w k - w 0) (w (suc j))) (cond (eqb j k) (2 * w 0) (w j))
-
 pub up_fits : (b k : ℕ) → 1 ≤ k → (u : ℕ → ℕ) → Fits b k (up b k u)
 up_fits zero k k1 u = omega (arith, low_first 0 k k1 u, low_last 0 k k1 u)
 up_fits (suc b) k k1 u = omega (arith, high_first b k k1 u, high_last b k k1 u)
@@ -166,13 +153,6 @@ up_down (suc b) k k1 w f j = go j (order j k)
     go (suc j) (under l) = high_before b k k1 (down (suc b) k w) j l ∙ ap (λ (x : ℕ). 2 * x) (high_down_before b k w j l)
     go (suc j) (same e) = rw e (high_last b k k1 (down (suc b) k w) ∙ rw (high_down_rest b k w (k - 1) (omega arith), high_down_last b k w k refl) (omega arith))
     go (suc j) (over l) = high_past b k k1 (down (suc b) k w) (suc j) l ∙ ap (λ (x : ℕ). 2 * x) (high_down_past b k w (suc j) l)
-
--- a cell whose split edge, from vertex 0 to vertex k, has a whole midpoint
-pub record Splits (d k : ℕ) (vs : Cell) : Type 0 where
-  pub sized : Sized d vs
-  pub first : 1 ≤ k
-  pub last : k ≤ d
-  pub whole : (a : ℕ) → 1 ≤ a → a ≤ d → (along vs a 0 + along vs a k) % 2 ≡ 0
 
 -- a half of it
 module _ {d k : ℕ} {vs : Cell} (z : Splits d k vs) (b : ℕ) where

@@ -1,10 +1,10 @@
 -- The weights of a point in a root's cell. On the axis of the root's entry i the vertices up to i are at 0 and those past it at the
 -- cube's side, so what weighs the vertices up to i is what lacks to the point's coordinate there: a point lies in the cell exactly
 -- when its coordinates fall along the root, and its weights are their falls.
-use Rattle.std.specs.Prelude.{◌≡◌, false, cond, List, [], ◌∷◌, leb, get_or}
+use Rattle.std.specs.Prelude.{◌≡◌, false, List, [], ◌∷◌, get_or}
 use Rattle.std.proofs.Math.Path.{refl}
 use Rattle.std.proofs.Common.{ap, ◌∙◌, subst}
-use Prim.Native.Nat.{ℕ, zero, suc, ◌+◌, ◌-◌, ◌*◌, ◌≤◌, ◌<◌}
+use Prim.Native.Nat.{ℕ, zero, suc, ◌+◌, ◌*◌, ◌≤◌, ◌<◌}
 use native.Mathlib.Omega.{arith}
 use Rattle.std.proofs.Math.Nat.{le_of_mul-le-mul_left, mul-le-mul_left, zero-add}
 use Rattle.std.proofs.Math.Decide.{dec_le, dec_lt}
@@ -16,18 +16,16 @@ use Rattle.bisection.specs.Cells.{Point, coordinate, root_cell, cell_below, cell
 use Rattle.bisection.specs.Roots.{GoodRoot}
 use Rattle.bisection.specs.Codes.{name_below, name_of}
 use Rattle.bisection.proofs.Theorems.Axis.{closed_near, closed_far}
-use Rattle.bisection.proofs.Theorems.Entries.{Signed, Stands, stands}
-use Rattle.bisection.proofs.Theorems.Drawn.{along}
+use Rattle.bisection.specs.Theorems.Entries.{Signed, Stands}
+use Rattle.bisection.proofs.Theorems.Entries.{stands}
+use Rattle.bisection.specs.Theorems.Drawn.{along}
 use Rattle.bisection.proofs.Theorems.CodePaths.{some_axes, name_passes}
 use Rattle.bisection.proofs.Theorems.Geometry.{root_axis, root_drawn, root_reads}
 use Rattle.bisection.specs.Weights.{sum_to, Inside}
 use Rattle.bisection.proofs.Theorems.Weights.Sums.{sum_rises, mean_past}
-use Rattle.bisection.proofs.Theorems.Weights.Axes.{mean, Axes, weighs_axes, axes_inside}
-
--- v falls along a list, from b on
-pub data Falls (v : ℕ → ℕ) : ℕ → List ℕ → Type 0 where
-  falls_none : {b : ℕ} → Falls v b []
-  falls_more : {b x : ℕ} {xs : List ℕ} → v x ≤ b → Falls v (v x) xs → Falls v b (x ∷ xs)
+use Rattle.bisection.specs.Theorems.Weights.Axes.{mean, Axes}
+use Rattle.bisection.proofs.Theorems.Weights.Axes.{weighs_axes, axes_inside}
+use Rattle.points.specs.Theorems.RootCells.{Falls, falls_more, falls_none, height, root_weight}
 
 pub falls_first : {v : ℕ → ℕ} {b : ℕ} {xs : List ℕ} → Falls v b xs → 0 < length xs → v (get_or xs 0 0) ≤ b
 falls_first falls_none l = absurd (omega arith)
@@ -53,14 +51,6 @@ dec_falls v b (x ∷ xs) = go (dec_le (v x) b) (dec_falls v (v x) xs)
       where
         rest : Falls v b (x ∷ xs) → Falls v (v x) xs
         rest (falls_more h g) = g
-
--- the cube's side, the coordinates along the root, then 0: the weights are the falls of this
-unfoldable pub height : Point → List ℕ → ℕ → ℕ
-height p root zero = cube_side
-height p root (suc j) = cond (leb (suc j) (length root)) (coordinate p (get_or root j 0)) 0
-
-abbrev pub root_weight : Point → List ℕ → ℕ → ℕ
-root_weight p root j = height p root j - height p root (suc j)
 
 pub side_some : 0 < cube_side
 side_some = rw (← side_first) (side_pos 0 (omega arith))

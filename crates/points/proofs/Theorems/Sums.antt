@@ -1,10 +1,12 @@
 -- Sums of terms that moved.
-use Rattle.std.specs.Prelude.{◌≡◌, refl, cond, ℕ, zero, suc, ◌+◌, ◌≤◌, ◌<◌, eqb, ltb}
+use Rattle.std.specs.Prelude.{◌≡◌, refl, ℕ, zero, suc, ◌+◌, ◌≤◌, ◌<◌}
 use native.Mathlib.Omega.{arith}
 use Rattle.std.proofs.Math.Decide.{ℕ_discrete}
 use borrow.Author.Tests.{eq-eqb, ne_eqb, lt-ltb, le-ltb}
 use Rattle.bisection.specs.Weights.{sum_to}
-use Rattle.bisection.proofs.Theorems.Weights.Sums.{sum_same, sum_add, only, sum_only}
+use Rattle.bisection.specs.Theorems.Weights.Sums.{only}
+use Rattle.bisection.proofs.Theorems.Weights.Sums.{sum_same, sum_add, sum_only}
+use Rattle.points.specs.Theorems.Sums.{turn}
 
 -- what is taken off at one place and put on at another changes no sum
 pub sum_moved : (n i h c : ℕ) (f g : ℕ → ℕ) → i < n → h < n → ((j : ℕ) → j < n → f j + only i c j ≡ g j + only h c j) → sum_to n f ≡ sum_to n g
@@ -16,10 +18,6 @@ sum_moved n i h c f g l m e = omega (
   sum_only n i c l,
   sum_only n h c m,
 )
-
--- the places 0 .. k turned left by one: what stood at 0 stands at k
-unfoldable pub turn : ℕ → (ℕ → ℕ) → ℕ → ℕ
-turn k f j = cond (ltb j k) (f (suc j)) (cond (eqb j k) (f 0) (f j))
 
 module _ (k : ℕ) (f : ℕ → ℕ) (j : ℕ) where
   pub turn_before : j < k → turn k f j ≡ f (suc j)

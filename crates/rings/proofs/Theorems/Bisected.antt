@@ -8,8 +8,9 @@ use Rattle.std.proofs.Math.Decide.{ℕ_discrete}
 use Rattle.dimension.specs.Sizes.{is_dimension, greatest_depth, split_place}
 use Rattle.bisection.specs.Cells.{Point, Cell, vertex}
 use Rattle.bisection.specs.Facets.{facet, HasAll}
-use Rattle.bisection.proofs.Theorems.Lists.{middle}
-use Rattle.bisection.proofs.Theorems.Crossing.Points.{Found, mem_place, place_mem, OtherPlace, mem_facet, facet_mem, facet_part}
+use Rattle.bisection.specs.Theorems.Lists.{middle}
+use Rattle.bisection.specs.Theorems.Crossing.Points.{OtherPlace}
+use Rattle.bisection.proofs.Theorems.Crossing.Points.{Found, mem_place, place_mem, mem_facet, facet_mem, facet_part}
 use Rattle.bisection.proofs.Theorems.Splitting.Children.{child_middle, child_facet}
 use Rattle.bisection.proofs.Theorems.Splitting.Newest as newest
 use Rattle.sheets.specs.Forests.{TreeCell, child_of}
@@ -17,7 +18,8 @@ use Rattle.finding.specs.Theorems.OneOfThree.{CellOf}
 use Rattle.rings.specs.Compatible.{vertices_of}
 use Rattle.rings.proofs.Theorems.Shape.{Laws, lacks}
 use Rattle.rings.proofs.Theorems.Cells as cells
-use Rattle.rings.proofs.Theorems.Cells.{bit, bit_small, Has, shape, child_depth, child_room, front_real, is_cell, dim_of, depth_of_is, sized, size_of, child_points, split_in}
+use Rattle.rings.specs.Theorems.Cells.{bit, Has, shape}
+use Rattle.rings.proofs.Theorems.Cells.{bit_small, child_depth, child_room, front_real, is_cell, dim_of, depth_of_is, sized, size_of, child_points, split_in}
 use Rattle.rings.proofs.Theorems.Halving as halving
 use Rattle.rings.proofs.Theorems.Halving.{lacks_is}
 

@@ -9,22 +9,20 @@ use Rattle.bisection.specs.Cells.{Point, child}
 use Rattle.bisection.specs.Codes.{IsCodeOf, dimension_of, depth_of}
 use Rattle.bisection.specs.Facets.{facet, InFace, HasAll, IsCell, Shares, Across}
 use Rattle.bisection.proofs.Theorems.CodePaths.{dimension_of_code, depth_of_code, length_root, one_path}
-use Rattle.bisection.proofs.Theorems.CellChildren.{cell_of_child, one_step_more, shorter, Longer, longer}
-use Rattle.bisection.proofs.Theorems.Drawn.{Sized}
+use Rattle.bisection.specs.Theorems.CellChildren.{Longer}
+use Rattle.bisection.proofs.Theorems.CellChildren.{cell_of_child, one_step_more, shorter, longer}
+use Rattle.bisection.specs.Theorems.Drawn.{Sized}
 use Rattle.bisection.proofs.Theorems.Crossing.Points.{facet_part}
-use Rattle.bisection.proofs.Theorems.Crossing.Coded.{Coded, coded_at}
+use Rattle.bisection.specs.Theorems.Crossing.Coded.{Coded}
+use Rattle.bisection.proofs.Theorems.Crossing.Coded.{coded_at}
 use Rattle.bisection.proofs.Theorems.Neighbour.{across_free, face_alone, across_not_face, across_facets, across_ends, across_determined, across_back}
 use Rattle.sheets.specs.Forests.{TreeCell, tree_cell, child_of}
 use Rattle.sheets.specs.Theorems.Listing.{code_of_cell}
 use Rattle.finding.specs.Theorems.OneOfThree.{CellOf}
 use Rattle.rings.specs.Compatible.{vertices_of}
 use Rattle.rings.specs.Rings.{code_for, LeadsTo}
-use Rattle.rings.proofs.Theorems.Shape.{Shape, End, at_zero, at_split, Child}
-
--- child 0 or child 1
-abbrev pub bit : Bool → ℕ
-bit false = 0
-bit true = 1
+use Rattle.rings.proofs.Theorems.Shape.{End, at_zero, at_split, Child}
+use Rattle.rings.specs.Theorems.Cells.{Has, LeadsSomewhere, bit, shape}
 
 pub bit_small : (b : Bool) → bit b ≤ 1
 bit_small false = omega arith
@@ -34,29 +32,6 @@ pub bit_of : (n : ℕ) → n ≤ 1 → (b : Bool) × (n ≡ bit b)
 bit_of zero h = (false, refl)
 bit_of (suc zero) h = (true, refl)
 bit_of (suc (suc n)) h = absurd (omega arith)
-
--- cell m has all vertices of facet i of cell c
-pub record Has (d : ℕ) (c : TreeCell) (i : ℕ) (m : TreeCell) : Type 0 where
-  pub facet_of : i ≤ d
-  pub all : HasAll (facet i (vertices_of c)) (vertices_of m)
-
-abbrev pub shape : ℕ → Shape
-shape d = record {
-  C = TreeCell;
-  Real = CellOf d;
-  depth = λ c. length c.path;
-  greatest = greatest_depth d;
-  child = λ b c. child_of (bit b) c;
-  split_at = split_place d;
-  LeadsTo = LeadsTo d;
-  Has = Has d;
-}
-
--- some cell lies across facet i
-pub record LeadsSomewhere (d : ℕ) (c : TreeCell) (i : ℕ) : Type 0 where
-  pub n : TreeCell
-  pub j : ℕ
-  pub leads : LeadsTo d c i n j
 
 -- ---- the tree
 

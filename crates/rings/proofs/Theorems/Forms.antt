@@ -11,10 +11,12 @@ use Rattle.rings.specs.Rings.{IsLeaf, IsSplit, Present, leaf, split, LeadsTo, Pa
 use Rattle.rings.specs.Rings as rings
 use Rattle.rings.proofs.Theorems.Shape.{End, at_zero, at_split}
 use Rattle.rings.proofs.Theorems.Forests.{split_present}
+use Rattle.rings.specs.Theorems.Forests as forest
 use Rattle.rings.proofs.Theorems.Forests as forests
 use Rattle.rings.proofs.Theorems.Sharers as sharers
 use Rattle.rings.proofs.Theorems.Whole as whole
-use Rattle.rings.proofs.Theorems.Cells.{bit, bit_of, shape, last_small}
+use Rattle.rings.specs.Theorems.Cells.{bit, shape}
+use Rattle.rings.proofs.Theorems.Cells.{bit_of, last_small}
 use Rattle.rings.proofs.Theorems.Bisected.{bisected}
 use Rattle.rings.proofs.Theorems.Leaves.{splits, leaf_in_is, leaf_out, leaf_real, compatible_in, compatible_out}
 
@@ -36,14 +38,14 @@ module _ {d : ℕ} {n e : TreeCell} {j : ℕ} where
   sharer_in r (child_0 q p) = sharers.Sharer.lower false q p
 
 module _ (d : ℕ) {leaves : List TreeCell} (known : is_dimension d ≡ true) (v : Leaves (roots d) (greatest_depth d) leaves) where
-  present_out : {n : TreeCell} → CellOf d n → forests.Present (shape d) (IsSplit leaves) n → Present leaves n
+  present_out : {n : TreeCell} → CellOf d n → forest.Present (shape d) (IsSplit leaves) n → Present leaves n
   present_out {n} r p = go ((splits d known v).test n r)
     where
       go : Dec (IsSplit leaves n) → Present leaves n
       go (yes s) = split s
       go (no s) = leaf (leaf_out d known v (record { present = p; whole = s }))
 
-  present_in : {n : TreeCell} → Present leaves n → forests.Present (shape d) (IsSplit leaves) n
+  present_in : {n : TreeCell} → Present leaves n → forest.Present (shape d) (IsSplit leaves) n
   present_in (leaf m) = (leaf_in_is d known v m).present
   present_in (split s) = split_present (bisected d known) (splits d known v) s
 

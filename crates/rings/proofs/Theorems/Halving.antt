@@ -8,12 +8,18 @@ use Rattle.bisection.specs.Codes.{dimension_of, depth_of}
 use Rattle.bisection.specs.Facets.{facet, InFace, IsCell, Across}
 use Rattle.bisection.specs.Weights.{LiesInside}
 use Rattle.bisection.proofs.Theorems.CodeCells.{same_code}
-use Rattle.bisection.proofs.Theorems.Crossing.Skips.{skip_other, Skipped, skipped}
-use Rattle.bisection.proofs.Theorems.Neighbour.{Neighbour, none, one, neighbour}
-use Rattle.bisection.proofs.Theorems.Splitting.Children.{kept_at, lacks_in}
+use Rattle.bisection.specs.Theorems.Crossing.Skips.{Skipped}
+use Rattle.bisection.proofs.Theorems.Crossing.Skips.{skip_other, skipped}
+use Rattle.bisection.specs.Theorems.Neighbour.{Neighbour, none, one}
+use Rattle.bisection.proofs.Theorems.Neighbour.{neighbour}
+use Rattle.bisection.specs.Theorems.Splitting.Children.{kept_at}
+use Rattle.bisection.proofs.Theorems.Splitting.Children.{lacks_in}
+use Rattle.bisection.specs.Theorems.Splitting.Children as halved
 use Rattle.bisection.proofs.Theorems.Splitting.Children as halves
-use Rattle.bisection.proofs.Theorems.Splitting.Inside.{Lies, whole, part, Holder, holder, lies_inside}
-use Rattle.bisection.proofs.Theorems.Splitting.Agreement.{number_across, number_small, ChildAcross, agree_alone, agree_across}
+use Rattle.bisection.specs.Theorems.Splitting.Inside.{Lies, whole, part, Holder}
+use Rattle.bisection.proofs.Theorems.Splitting.Inside.{holder, lies_inside}
+use Rattle.bisection.specs.Theorems.Splitting.Agreement.{number_across, ChildAcross}
+use Rattle.bisection.proofs.Theorems.Splitting.Agreement.{number_small, agree_alone, agree_across}
 use Rattle.bisection.proofs.Theorems.Splitting.Siblings.{sibling_across}
 use Rattle.sheets.specs.Forests.{TreeCell, child_of}
 use Rattle.finding.specs.Theorems.OneOfThree.{CellOf}
@@ -21,10 +27,11 @@ use Rattle.rings.specs.Compatible.{vertices_of}
 use Rattle.rings.specs.Rings.{code_for, LeadsTo}
 use Rattle.rings.proofs.Theorems.Shape.{End, at_zero, at_split, lacks, Up, sibling, cousin, Down}
 use Rattle.rings.proofs.Theorems.Cells as cells
-use Rattle.rings.proofs.Theorems.Cells.{bit, bit_small, bit_of, shape, child_real, child_room, front_real, is_cell, dim_of, depth_of_is, coded_cell, sized, child_points, LeadsSomewhere, across_leads, split_in}
+use Rattle.rings.specs.Theorems.Cells.{bit, shape, LeadsSomewhere}
+use Rattle.rings.proofs.Theorems.Cells.{bit_small, bit_of, child_real, child_room, front_real, is_cell, dim_of, depth_of_is, coded_cell, sized, child_points, across_leads, split_in}
 
 -- the end that a child lacks, by its number
-pub lacks_is : (d : ℕ) (b : Bool) (c : TreeCell) → halves.lacks (bit b) (split_place d (length c.path)) ≡ lacks (shape d) b c
+pub lacks_is : (d : ℕ) (b : Bool) (c : TreeCell) → halved.lacks (bit b) (split_place d (length c.path)) ≡ lacks (shape d) b c
 lacks_is d false c = refl
 lacks_is d true c = refl
 
@@ -122,7 +129,7 @@ module _ {d : ℕ} {c : TreeCell} (r : CellOf d c) (deep : length c.path < great
       where
         at_end : Lies d (bit b) (split_place d (length c.path)) h.i i → End (shape d) c h.i → (i ≡ split_place d (length c.path)) × (h.i ≡ lacks (shape d) b c)
         at_end (whole e q) z = (e, q ∙ lacks_is d b c)
-        at_end (part t l p q o) z = absurd (not_end z (halves.inner (bit b) (λ s. skip_other (halves.lacks (bit b) (split_place d (length c.path))) t (sym q ∙ s)) o))
+        at_end (part t l p q o) z = absurd (not_end z (halves.inner (bit b) (λ s. skip_other (halved.lacks (bit b) (split_place d (length c.path))) t (sym q ∙ s)) o))
           where
             not_end : End (shape d) c h.i → (h.i ≢ 0) × (h.i ≢ split_place d (length c.path)) → ⊥
             not_end (at_zero u) f = f.0 u

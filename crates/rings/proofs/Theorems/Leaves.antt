@@ -17,9 +17,11 @@ use Rattle.rings.specs.Compatible.{vertices_of, HasFacet, OneHasFacet, Compatibl
 use Rattle.rings.specs.Rings.{code_for, IsLeaf, IsSplit, leaf, split, Matched, present, parent}
 use Rattle.rings.proofs.Theorems.Lying.{lies_is, strictly_trans, strictly_child, parent_lies, one_below}
 use Rattle.rings.proofs.Theorems.Shape.{Child}
-use Rattle.rings.proofs.Theorems.Forests.{Splits, Present, root, below, OneOther, present_real}
-use Rattle.rings.proofs.Theorems.Forests as forests
-use Rattle.rings.proofs.Theorems.Cells.{bit, Has, shape, deep, above, front_real, not_face, LeadsSomewhere, free_leads}
+use Rattle.rings.specs.Theorems.Forests.{Splits, Present, root, below, OneOther}
+use Rattle.rings.proofs.Theorems.Forests.{present_real}
+use Rattle.rings.specs.Theorems.Forests as forest
+use Rattle.rings.specs.Theorems.Cells.{bit, Has, shape, LeadsSomewhere}
+use Rattle.rings.proofs.Theorems.Cells.{deep, above, front_real, not_face, free_leads}
 use Rattle.rings.proofs.Theorems.Bisected.{bisected}
 
 -- ---- leaves of a forest are those of a good sheet, of the one with their codes alone
@@ -92,14 +94,14 @@ module _ (d : ℕ) {leaves : List TreeCell} (known : is_dimension d ≡ true) (v
       test (a_split s) = yes s
 
   -- leaves are leaves
-  pub leaf_in_is : {c : TreeCell} → IsLeaf leaves c → forests.Leaf (shape d) (IsSplit leaves) c
+  pub leaf_in_is : {c : TreeCell} → IsLeaf leaves c → forest.Leaf (shape d) (IsSplit leaves) c
   leaf_in_is {c} m = record { present = go (above (leaf_real m)); whole = leaf_not_split m }
     where
       go : (length c.path ≡ 0) ⊎ Child (shape d) c → Present (shape d) (IsSplit leaves) c
       go (inl z) = root (leaf_real m) z
       go (inr k) = below k.number k.parent (record { number = m.number; small = m.small; inside = subst (λ (x : TreeCell). StrictlyIn x k.parent) (sym (m.is ∙ k.is)) (strictly_child (bit k.number) k.parent) }) k.is
 
-  pub leaf_out : {c : TreeCell} → forests.Leaf (shape d) (IsSplit leaves) c → IsLeaf leaves c
+  pub leaf_out : {c : TreeCell} → forest.Leaf (shape d) (IsSplit leaves) c → IsLeaf leaves c
   leaf_out {c} l = go (stands (present_real (bisected d known) splits l.present))
     where
       not_in : (n : ℕ) → n < length leaves → StrictlyIn c (leaf_in leaves n) → Present (shape d) (IsSplit leaves) c → ⊥
@@ -164,7 +166,7 @@ module _ (d : ℕ) {leaves : List TreeCell} (known : is_dimension d ≡ true) (v
         n : IsLeaf leaves o.other
         n = leaf_out o.leaf
 
-  pub compatible_in : Compatible leaves → forests.Compatible (shape d) (IsSplit leaves)
+  pub compatible_in : Compatible leaves → forest.Compatible (shape d) (IsSplit leaves)
   compatible_in k c n i j l x = one_in m x.facet_of (k.one m.number m.small i (omega (arith, axes, x.facet_of)) free)
     where
       m : IsLeaf leaves c
@@ -176,7 +178,7 @@ module _ (d : ℕ) {leaves : List TreeCell} (known : is_dimension d ≡ true) (v
       free : ¬ InFace (length (leaf_in leaves m.number).root) (facet i (vertices_of (leaf_in leaves m.number)))
       free = rw (axes, m.is) (not_face x)
 
-  pub compatible_out : forests.Compatible (shape d) (IsSplit leaves) → Compatible leaves
+  pub compatible_out : forest.Compatible (shape d) (IsSplit leaves) → Compatible leaves
   compatible_out k = record { one = λ n l i il free. go n l i (omega (arith, il, (leaf_cell n l).axes)) (rw (leaf_cell n l).axes at free) }
     where
       go : (n : ℕ) → n < length leaves → (i : ℕ) → i ≤ d → ¬ InFace d (facet i (vertices_of (leaf_in leaves n))) → OneHasFacet leaves n i

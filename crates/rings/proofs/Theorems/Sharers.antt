@@ -3,7 +3,8 @@
 use Rattle.std.specs.Prelude.{◌≡◌, refl, Bool, true, false, ◌⊎◌, ◌≢◌, ℕ, zero, suc, ◌≤◌, ◌<◌}
 use Rattle.std.proofs.Common.{sym, subst, ap, ◌∙◌, inl, inr, arith}
 use Rattle.std.proofs.Math.Decide.{dec_lt}
-use Rattle.rings.proofs.Theorems.Shape.{Shape, Laws, split_of, End, at_zero, at_split, Child, lacks, Down}
+use Rattle.rings.specs.Theorems.Shape.{Shape}
+use Rattle.rings.proofs.Theorems.Shape.{Laws, split_of, End, at_zero, at_split, Child, lacks, Down}
 
 pub data Sharer (X : Shape) (n : X.C) (j : ℕ) (m : X.C) : Type 0 where
   same : m ≡ n → Sharer X n j m

@@ -4,8 +4,10 @@ use Rattle.std.specs.Prelude.{◌≡◌, refl, Bool, true, ◌≢◌}
 use Rattle.std.proofs.Common.{sym, subst, ap, ◌∙◌, arith}
 use Rattle.std.proofs.Math.Bool.{false}
 use Prim.Native.Nat.{ℕ, zero, suc, ◌+◌, ◌≤◌}
-use Rattle.rings.proofs.Theorems.Shape.{Shape, Laws, split_of, End, at_zero, at_split, lacks, Up, sibling, cousin, Down}
-use Rattle.rings.proofs.Theorems.Forests.{Splits, Present, root, below, Leaf, OneOther, Compatible, Matched, there, larger, AllPass, FirstPass, WholeRings}
+use Rattle.rings.specs.Theorems.Shape.{Shape}
+use Rattle.rings.proofs.Theorems.Shape.{Laws, split_of, End, at_zero, at_split, lacks, Up, sibling, cousin, Down}
+use Rattle.rings.specs.Theorems.Forests.{Splits, Present, root, below, Leaf, OneOther, Compatible}
+use Rattle.rings.proofs.Theorems.Forests.{Matched, there, larger, AllPass, FirstPass, WholeRings}
 use Rattle.rings.proofs.Theorems.Forests.{Where, here, missing, find, leaf_real, present_parent, not_below, split_present, end_test}
 use Rattle.rings.proofs.Theorems.Sharers.{Sharer, same, upper, lower, sharer, sharer_has, lacks_end}
 

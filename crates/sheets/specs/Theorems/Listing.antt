@@ -14,8 +14,10 @@ use Rattle.bisection.specs.Roots.{GoodRoot, GoodPath, roots}
 use Rattle.bisection.specs.Codes.{code_of, IsCodeOf}
 use Rattle.bisection.specs.Refusals.{done, code_refusal}
 use Rattle.bisection.proofs.Theorems.Checked.{both, and_both}
-use Rattle.bisection.proofs.Theorems.Ladders.{first_is, all_hold, holds, past, held_at}
-use Rattle.bisection.proofs.Theorems.CodePaths.{root_of, path_of, code_path, code_passes, one_path}
+use Rattle.bisection.specs.Theorems.Ladders.{all_hold, holds, past}
+use Rattle.bisection.proofs.Theorems.Ladders.{first_is, held_at}
+use Rattle.bisection.specs.Theorems.CodePaths.{root_of, path_of}
+use Rattle.bisection.proofs.Theorems.CodePaths.{code_path, code_passes, one_path}
 use Rattle.codes.specs.Fronts.{front_dimension, front_code}
 use Rattle.codes.specs.Fronts.Laws.{code_two, front_root}
 use Rattle.positions.specs.RootNumbers.{roots_good, roots_length}

@@ -9,7 +9,8 @@ use Rattle.std.proofs.Math.ListN.{length-append, length-drop}
 use borrow.Author.Tests.{eqb-true, eq-eqb, leb-true, le-leb}
 use Rattle.bisection.specs.Refusals.{done, code_refusal}
 use Rattle.bisection.proofs.Theorems.Checked.{both}
-use Rattle.bisection.proofs.Theorems.Ladders.{first_is, all_hold, holds, past, held_at}
+use Rattle.bisection.specs.Theorems.Ladders.{all_hold, holds, past}
+use Rattle.bisection.proofs.Theorems.Ladders.{first_is, held_at}
 use Rattle.codes.specs.Fronts.{front_refusal, front_dimension, front_length, front_code, inner_refusal}
 use Rattle.codes.specs.Fronts.Laws.{front_code_dimension, front_code_rest, front_headed, headed_refusal, Fronted, code_fronted}
 use Rattle.sheets.specs.Sheets.{begins_with, body_length, unmarked_refusal}

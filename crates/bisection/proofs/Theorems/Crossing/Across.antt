@@ -1,34 +1,25 @@
 -- The frame across, where no wall is in the way, is a good one: its sides are one apart, and its first k places have the
 -- box's own sign.
-use Rattle.std.specs.Prelude.{◌≡◌, true, false, ◌≢◌, ℕ, suc, ◌+◌, ◌-◌, ◌*◌, ◌%◌, ◌≤◌, ◌<◌}
+use Rattle.std.specs.Prelude.{◌≡◌, true, false, ℕ, suc, ◌+◌, ◌-◌, ◌*◌, ◌%◌, ◌≤◌, ◌<◌}
 use Rattle.std.proofs.Common.{sym, ap, ◌∙◌, arith, eqb→eq, eq-eqb}
 use Rattle.std.proofs.Math.Path.{subst}
 use Rattle.std.proofs.Math.Decide.{dec_lt, dec_le, ℕ_discrete}
 use Rattle.std.proofs.Math.Dec.{T}
 use Rattle.bisection.proofs.Theorems.Crossing.Sums.{at_axis}
-use Rattle.bisection.proofs.Theorems.Crossing.Rows.{Sides, sides_turn, sides_odd}
-use Rattle.bisection.proofs.Theorems.Crossing.Frames.{Frame, GoodFrame}
-use Rattle.bisection.proofs.Theorems.Crossing.Axes.{Fits}
-use Rattle.bisection.proofs.Theorems.Table.{Move, swap, nearer, farther, trade, left, right, move}
-use Rattle.bisection.proofs.Theorems.Crossing.Moves.{Spot, apply, own, applies, Moved, view, is_near, is_far, is_left, is_trade, is_edge, is_right, is_swap}
+use Rattle.bisection.specs.Theorems.Crossing.Rows.{Sides}
+use Rattle.bisection.proofs.Theorems.Crossing.Rows.{sides_turn, sides_odd}
+use Rattle.bisection.specs.Theorems.Crossing.Frames.{Frame, GoodFrame}
+use Rattle.bisection.specs.Theorems.Crossing.Axes.{Fits}
+use Rattle.bisection.specs.Theorems.Table.{Move, swap, nearer, farther, trade, left, right, move}
+use Rattle.bisection.specs.Theorems.Crossing.Moves.{apply, own, Moved, is_near, is_far, is_left, is_trade, is_edge, is_right, is_swap}
+use Rattle.bisection.proofs.Theorems.Crossing.Moves.{applies, view}
 use Rattle.bisection.proofs.Theorems.Crossing.Level.{fits}
-use Rattle.bisection.proofs.Theorems.Crossing.Walls.{Wall, bottom, Stuck, end, start}
-use Rattle.bisection.proofs.Theorems.Crossing.Sound.{Allowed, a_swap, a_near, a_far, a_left, a_right, a_trade, allowed}
-use Rattle.bisection.proofs.Theorems.Crossing.Places.{cross, cross_perm}
-
--- what the signs must be for the frame across to be good, and no low wall in the way
-pub data Clear (d k p x y : ℕ) : Move → Type 0 where
-  c_swap : {i : ℕ} → (i ≡ k → p ≡ suc k → x % 2 ≡ 0) → Clear d k p x y (swap i)
-  c_near : (p ≡ d → x ≢ 0) → Clear d k p x y nearer
-  c_far : (p ≡ 1 → y ≢ 0) → Clear d k p x y farther
-  c_left : (p ≡ suc k → x % 2 ≡ 0) → Clear d k p x y left
-  c_right : (p ≡ suc k → y % 2 ≡ 0) → Clear d k p x y right
-  c_trade : (p ≡ suc k → y % 2 ≡ 0) → Clear d k p x y trade
-
--- an axis of a good frame
-pub record Fine (k : ℕ) (t : Spot) : Type 0 where
-  pub sides : Sides t.near t.far
-  pub even : t.at ≤ k → t.near % 2 ≡ 0
+use Rattle.bisection.specs.Theorems.Crossing.Walls.{Wall, bottom, Stuck, end, start}
+use Rattle.bisection.specs.Theorems.Crossing.Sound.{Allowed, a_swap, a_near, a_far, a_left, a_right, a_trade}
+use Rattle.bisection.proofs.Theorems.Crossing.Sound.{allowed}
+use Rattle.bisection.specs.Theorems.Crossing.Places.{cross}
+use Rattle.bisection.proofs.Theorems.Crossing.Places.{cross_perm}
+use Rattle.bisection.specs.Theorems.Crossing.Across.{Clear, Fine, c_far, c_left, c_near, c_right, c_swap, c_trade}
 
 even_back : {x y : ℕ} → Sides x y → x % 2 ≡ 0 → (2 * y - x) % 2 ≡ 0
 even_back {x} {y} s e = go (dec_lt x y)

@@ -1,28 +1,11 @@
 -- One axis of two frames that share a facet's vertices: where it stands in the second, and which sides it has there,
 -- told by the first vertex at which it leaves its near side.
-use Rattle.std.specs.Prelude.{◌≡◌, ◌≢◌, ℕ, suc, ◌+◌, ◌-◌, ◌%◌, ◌≤◌, ◌<◌}
+use Rattle.std.specs.Prelude.{◌≡◌, ◌≢◌, ℕ, suc, ◌+◌, ◌-◌, ◌≤◌, ◌<◌}
 use Rattle.std.proofs.Common.{sym, arith}
 use Rattle.std.proofs.Math.Decide.{dec_lt, dec_le, ℕ_discrete}
-use Rattle.bisection.proofs.Theorems.Crossing.Rows.{row, row_before, row_in, row_past, Sides, sides_odd, go_before, go_after, far_same, was_after}
-
--- an axis with the same place and sides
-pub record Same (p x y p' x' y' : ℕ) : Type 0 where
-  pub at : p' ≡ p
-  pub near : x' ≡ x
-  pub far : y' ≡ y
-
--- an axis keeps its place, or goes from one of two places to the other, with what is known of its sides
-pub data Exchange (u w p p' : ℕ) (Stay Go : Type 0) : Type 0 where
-  stay : p' ≡ p → Stay → Exchange u w p p' Stay Go
-  up : p ≡ u → p' ≡ w → Go → Exchange u w p p' Stay Go
-  down : p ≡ w → p' ≡ u → Go → Exchange u w p p' Stay Go
-
--- one axis of a good cell
-pub record Fits (d k p x y : ℕ) : Type 0 where
-  pub first : 1 ≤ p
-  pub last : p ≤ d
-  pub sides : Sides x y
-  pub even : p ≤ k → x % 2 ≡ 0
+use Rattle.bisection.specs.Theorems.Crossing.Rows.{row}
+use Rattle.bisection.proofs.Theorems.Crossing.Rows.{row_before, row_in, row_past, sides_odd, go_before, go_after, far_same, was_after}
+use Rattle.bisection.specs.Theorems.Crossing.Axes.{Exchange, Fits, Turn, down, edge, first, inner, past, stay, up}
 
 module _ {d k p x y p' x' y' : ℕ} (o : Fits d k p x y) (o' : Fits d k p' x' y') where
   module _ {i : ℕ} (i1 : 1 ≤ i) (agree : (j : ℕ) → j ≤ d → j ≢ i → row k p x y j ≡ row k p' x' y' j) where
@@ -126,13 +109,6 @@ module _ {d p x y p' x' y' : ℕ} (o : Fits d d p x y) (o' : Fits d d p' x' y') 
 
   pub whole_near : 2 ≤ p → x' ≡ x
   whole_near h = omega (arith, agree 1 (omega (arith, o.last)) (omega arith), row_before d p x y 1 h, row_before d p' x' y' 1 (omega (arith, whole_at)))
-
--- turned corners
-pub data Turn (k p x y p' x' y' : ℕ) : Type 0 where
-  first : p ≡ 1 → p' ≡ suc k → x' ≡ y → y' ≡ x → Turn k p x y p' x' y'
-  inner : 2 ≤ p → p ≤ k → suc p' ≡ p → x' ≡ x → y' ≡ y → Turn k p x y p' x' y'
-  edge : p ≡ suc k → k ≤ p' → p' ≤ suc k → x' ≡ x → y' ≡ y → Turn k p x y p' x' y'
-  past : suc k < p → p' ≡ p → x' ≡ x → y' ≡ y → Turn k p x y p' x' y'
 
 module _ {d k p x y p' x' y' : ℕ} (o : Fits d k p x y) (o' : Fits d k p' x' y') (k1 : 1 ≤ k) (corner : (j : ℕ) → j < k → row k p x y (suc j) ≡ row k p' x' y' j) where
   turn_first : p ≡ 1 → x' ≡ y

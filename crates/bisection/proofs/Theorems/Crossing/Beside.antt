@@ -9,25 +9,29 @@ use Rattle.dimension.specs.Laws.{side_whole, box_in}
 use Rattle.bisection.specs.Cells.{Cell, vertex, cell_of}
 use Rattle.bisection.specs.Codes.{Name, bytes, dimension_of, depth_of, parts_of}
 use Rattle.bisection.specs.Facets.{facet, InFace, HasAll}
-use Rattle.bisection.proofs.Theorems.Passing.{Passes}
-use Rattle.bisection.proofs.Theorems.CodePaths.{root_of, path_of}
+use Rattle.bisection.specs.Theorems.Passing.{Passes}
+use Rattle.bisection.specs.Theorems.CodePaths.{root_of, path_of}
 use Rattle.bisection.proofs.Theorems.Checked.{bytes_done, parts_bytes}
-use Rattle.bisection.proofs.Theorems.Table.{Move, move, new_at, move_of, blocked, across_name, new_place}
-use Rattle.bisection.proofs.Theorems.Crossing.Frames.{Frame}
-use Rattle.bisection.proofs.Theorems.Crossing.Shift.{HasFacet}
-use Rattle.bisection.proofs.Theorems.Crossing.Moves.{Spot, Lands, own, Moved, view}
-use Rattle.bisection.proofs.Theorems.Crossing.Axes.{Same}
-use Rattle.bisection.proofs.Theorems.Crossing.Level.{LandsAt, Outcome, same, crossed}
+use Rattle.bisection.specs.Theorems.Table.{Move, move, new_at, move_of, blocked, across_name, new_place}
+use Rattle.bisection.specs.Theorems.Crossing.Frames.{Frame}
+use Rattle.bisection.specs.Theorems.Crossing.Shift.{HasFacet}
+use Rattle.bisection.specs.Theorems.Crossing.Moves.{Spot, Lands, own, Moved}
+use Rattle.bisection.proofs.Theorems.Crossing.Moves.{view}
+use Rattle.bisection.specs.Theorems.Crossing.Axes.{Same}
+use Rattle.bisection.specs.Theorems.Crossing.Level.{LandsAt, Outcome, same, crossed}
 use Rattle.bisection.proofs.Theorems.Crossing.Unique.{unique}
-use Rattle.bisection.proofs.Theorems.Crossing.Walls.{Stuck, on_wall, wall_stuck, alone}
-use Rattle.bisection.proofs.Theorems.Crossing.Shared.{in_order_meets, Ends, ends, new_not, new_within}
+use Rattle.bisection.specs.Theorems.Crossing.Walls.{Stuck}
+use Rattle.bisection.proofs.Theorems.Crossing.Walls.{on_wall, wall_stuck, alone}
+use Rattle.bisection.specs.Theorems.Crossing.Shared.{Ends}
+use Rattle.bisection.proofs.Theorems.Crossing.Shared.{in_order_meets, ends, new_not, new_within}
 use Rattle.bisection.proofs.Theorems.Crossing.Sound.{allowed}
 use Rattle.bisection.proofs.Theorems.Crossing.Points.{facet_has, mem_among, same_facets, same_cells, wall_face, face_wall}
-use Rattle.bisection.proofs.Theorems.Crossing.Named.{frame}
+use Rattle.bisection.specs.Theorems.Crossing.Named.{frame}
 use Rattle.bisection.proofs.Theorems.Crossing.Carries.{blocked_stuck, stuck_blocked}
 use Rattle.bisection.proofs.Theorems.Crossing.Crossed.{row_is, lands, across_passes}
 use Rattle.bisection.proofs.Theorems.CodeCells.{code_cell, same_code}
-use Rattle.bisection.proofs.Theorems.Crossing.Coded.{Coded, coded_at, some, few, range, side, good_of, cube_of, scaled_of}
+use Rattle.bisection.specs.Theorems.Crossing.Coded.{Coded}
+use Rattle.bisection.proofs.Theorems.Crossing.Coded.{coded_at, some, few, range, side, good_of, cube_of, scaled_of}
 
 -- facet i of a cell
 module _ {d D : ℕ} {code : List ℕ} {vs : Cell} (c : Coded d D code vs) (i : ℕ) (il : i ≤ d) where

@@ -13,14 +13,10 @@ use Rattle.dimension.specs.Laws.{side_twice}
 use Rattle.bisection.specs.Codes.{high}
 use Rattle.bisection.specs.Refusals.{own_minus, same_sign}
 use Rattle.bisection.proofs.Theorems.Paths.{own_none}
-use Rattle.bisection.proofs.Theorems.Drawn.{box_low}
+use Rattle.bisection.specs.Theorems.Drawn.{box_low}
 use Rattle.bisection.proofs.Theorems.Crossing.Flips.{flipped_at, flipped_other, flipped_fits}
-use Rattle.bisection.proofs.Theorems.Table.{flipped, runs_out, carried}
-
--- the box on axis a
-unfoldable pub box_at : ℕ → List ℕ → ℕ
-box_at a [] = 0
-box_at a (o ∷ os) = cond (high o a) (2 ^ length os) 0 + box_at a os
+use Rattle.bisection.specs.Theorems.Table.{flipped, runs_out, carried}
+use Rattle.bisection.specs.Theorems.Crossing.Boxes.{Carried, box_at, on, out}
 
 pub box_at_fits : (a : ℕ) (os : List ℕ) → box_at a os < 2 ^ length os
 unfolding box_at
@@ -75,15 +71,6 @@ own_box_at a (o ∷ p ∷ os) = own_cons a o p os ∙ own_box_at a (p ∷ os) �
     go : (t : Bool) (x : ℕ) → eqb (x % 2) 1 ≡ eqb ((cond t (2 ^ suc (length os)) 0 + x) % 2) 1
     go true x = let e : x % 2 ≡ (2 ^ suc (length os) + x) % 2 = omega arith in ap (λ (y : ℕ). eqb y 1) e
     go false x = let e : x % 2 ≡ (0 + x) % 2 = omega arith in ap (λ (y : ℕ). eqb y 1) e
-
--- the side of the box that an entry's sign calls near, in box sides
-abbrev pub unit : ℕ → Bool → ℕ
-unit b minus = cond minus (suc b) b
-
--- a carry: N boxes in a row, from box b to box b'
-pub data Carried (up : Bool) (N b b' : ℕ) : Bool → Type 0 where
-  out : unit b up ≡ cond up N 0 → unit b' (not up) ≡ cond up 0 N → Carried up N b b' true
-  on : unit b' (not up) ≡ unit b up → Carried up N b b' false
 
 carried_more : (up h : Bool) (N b b' : ℕ) {r : Bool} → Carried up N b b' r → Carried up (2 * N) (cond h N 0 + b) (cond (cond r (not h) h) N 0 + b') (same_sign h up && r)
 carried_more true true N b b' (out e f) = out (omega arith) (omega arith)

@@ -8,23 +8,17 @@ use Rattle.std.proofs.Math.Bool.{true, cond, not}
 use Rattle.std.proofs.Math.Decide.{ℕ_discrete}
 use Rattle.std.proofs.Math.Dec.{T}
 use Rattle.bisection.specs.Codes.{axis, minus, Name}
-use Rattle.bisection.proofs.Theorems.Entries.{Signed}
-use Rattle.bisection.proofs.Theorems.Drawn.{entry}
-use Rattle.bisection.proofs.Theorems.Table.{Move, swap, nearer, farther, left, right, trade, orthants_by, blocked_by, runs_out, carried}
-use Rattle.bisection.proofs.Theorems.Crossing.Moves.{place, negates, sides, apply, Lands}
-use Rattle.bisection.proofs.Theorems.Crossing.Walls.{Wall, bottom, top, Stuck, end, start}
-use Rattle.bisection.proofs.Theorems.Crossing.Sound.{Allowed, a_swap, a_near, a_far, a_left, a_right, a_trade}
-use Rattle.bisection.proofs.Theorems.Crossing.Boxes.{box_at, box_at_fits, unit, Carried, out, on, carried_box, carried_other, carried_fits, carried_length}
-use Rattle.bisection.proofs.Theorems.Crossing.Named.{frame, frame_near, frame_far, frame_axis}
-
--- the box on the axis of place p: kept, or moved to the other side of near, or of far
-pub data BoxGoes (d p b : ℕ) (n : Bool) (b' : ℕ) : Move → Type 0 where
-  b_swap : {i : ℕ} → b' ≡ b → BoxGoes d p b n b' (swap i)
-  b_near : (p ≡ d → unit b' (not n) ≡ unit b n) → (p ≢ d → b' ≡ b) → BoxGoes d p b n b' nearer
-  b_far : (p ≡ 1 → unit b' (not (not n)) ≡ unit b (not n)) → (p ≢ 1 → b' ≡ b) → BoxGoes d p b n b' farther
-  b_left : b' ≡ b → BoxGoes d p b n b' left
-  b_right : b' ≡ b → BoxGoes d p b n b' right
-  b_trade : b' ≡ b → BoxGoes d p b n b' trade
+use Rattle.bisection.specs.Theorems.Entries.{Signed}
+use Rattle.bisection.specs.Theorems.Drawn.{entry}
+use Rattle.bisection.specs.Theorems.Table.{Move, swap, nearer, farther, left, right, trade, orthants_by, blocked_by, runs_out, carried}
+use Rattle.bisection.specs.Theorems.Crossing.Moves.{place, negates, sides, apply, Lands}
+use Rattle.bisection.specs.Theorems.Crossing.Walls.{Wall, bottom, top, Stuck, end, start}
+use Rattle.bisection.specs.Theorems.Crossing.Sound.{Allowed, a_swap, a_near, a_far, a_left, a_right, a_trade}
+use Rattle.bisection.specs.Theorems.Crossing.Boxes.{box_at, unit, Carried, out, on}
+use Rattle.bisection.proofs.Theorems.Crossing.Boxes.{box_at_fits, carried_box, carried_other, carried_fits, carried_length}
+use Rattle.bisection.specs.Theorems.Crossing.Named.{frame}
+use Rattle.bisection.proofs.Theorems.Crossing.Named.{frame_near, frame_far, frame_axis}
+use Rattle.bisection.specs.Theorems.Crossing.Carries.{BoxGoes, b_far, b_left, b_near, b_right, b_swap, b_trade}
 
 unit_twice : (b : ℕ) (n : Bool) → unit b (not (not n)) ≡ unit b n
 unit_twice b true = refl

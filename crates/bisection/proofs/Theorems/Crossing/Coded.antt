@@ -1,28 +1,21 @@
 -- A code with its cell, at a dimension and depth that are known: the code's name is a cell's and draws the cell, and
 -- so does the name's frame.
-use Rattle.std.specs.Prelude.{◌≡◌, true, List, ℕ, ◌≤◌, ◌<◌, ◌^◌, length}
+use Rattle.std.specs.Prelude.{◌≡◌, List, ℕ, ◌≤◌, ◌<◌, ◌^◌, length}
 use Rattle.std.proofs.Common.{sym, subst}
-use Rattle.dimension.specs.Sizes.{is_dimension, greatest_depth, split_place, box_side, box_depth}
+use Rattle.dimension.specs.Sizes.{split_place, box_side, box_depth}
 use Rattle.dimension.specs.Laws.{side_of, split_range}
 use Rattle.bisection.specs.Cells.{Cell}
 use Rattle.bisection.specs.Codes.{name_of, code_of, dimension_of, depth_of, parts_of}
 use Rattle.bisection.specs.Facets.{IsCell}
-use Rattle.bisection.proofs.Theorems.Passing.{Passes}
 use Rattle.bisection.proofs.Theorems.CodePaths.{some_axes, few_axes, name_passes, dimension_of_code, depth_of_code, parts_of_code}
-use Rattle.bisection.proofs.Theorems.Drawn.{Drawn}
+use Rattle.bisection.specs.Theorems.Drawn.{Drawn}
 use Rattle.bisection.proofs.Theorems.Geometry.{closed_form}
-use Rattle.bisection.proofs.Theorems.Crossing.Frames.{GoodFrame}
-use Rattle.bisection.proofs.Theorems.Crossing.Walls.{InCube}
-use Rattle.bisection.proofs.Theorems.Crossing.Points.{Scaled}
-use Rattle.bisection.proofs.Theorems.Crossing.Named.{frame, frame_good, frame_cube, frame_scaled}
-
--- a code of dimension d and depth D, drawn by its name
-pub record Coded (d D : ℕ) (code : List ℕ) (vs : Cell) : Type 0 where
-  pub cell : IsCell code vs
-  pub dimension : is_dimension d ≡ true
-  pub deep : D ≤ greatest_depth d
-  pub passes : Passes d D (parts_of code)
-  pub drawn : Drawn d D (parts_of code) vs
+use Rattle.bisection.specs.Theorems.Crossing.Frames.{GoodFrame}
+use Rattle.bisection.specs.Theorems.Crossing.Walls.{InCube}
+use Rattle.bisection.specs.Theorems.Crossing.Points.{Scaled}
+use Rattle.bisection.specs.Theorems.Crossing.Named.{frame}
+use Rattle.bisection.proofs.Theorems.Crossing.Named.{frame_good, frame_cube, frame_scaled}
+use Rattle.bisection.specs.Theorems.Crossing.Coded.{Coded}
 
 pub coded : {code : List ℕ} {vs : Cell} → IsCell code vs → Coded (dimension_of code) (depth_of code) code vs
 coded {code} {vs} c = record {

@@ -10,21 +10,27 @@ use Rattle.dimension.specs.Sizes.{split_place, box_depth}
 use Rattle.dimension.specs.Laws.{split_range}
 use Rattle.bisection.specs.Codes.{axis, minus, Name}
 use Rattle.bisection.specs.Refusals.{own_minus}
-use Rattle.bisection.proofs.Theorems.Entries.{Signed}
-use Rattle.bisection.proofs.Theorems.Passing.{Passes}
-use Rattle.bisection.proofs.Theorems.Drawn.{entry}
-use Rattle.bisection.proofs.Theorems.Table.{Move, swap, nearer, farther, right, move, next_own, move_of, blocked, across_name}
-use Rattle.bisection.proofs.Theorems.Crossing.Frames.{GoodFrame}
-use Rattle.bisection.proofs.Theorems.Crossing.Moves.{apply, own, view}
-use Rattle.bisection.proofs.Theorems.Crossing.Level.{LandsAt}
-use Rattle.bisection.proofs.Theorems.Crossing.Walls.{Stuck}
-use Rattle.bisection.proofs.Theorems.Crossing.Sound.{Allowed, allowed}
-use Rattle.bisection.proofs.Theorems.Crossing.Places.{cross}
+use Rattle.bisection.specs.Theorems.Entries.{Signed}
+use Rattle.bisection.specs.Theorems.Passing.{Passes}
+use Rattle.bisection.specs.Theorems.Drawn.{entry}
+use Rattle.bisection.specs.Theorems.Table.{Move, swap, nearer, farther, right, move, next_own, move_of, blocked, across_name}
+use Rattle.bisection.specs.Theorems.Crossing.Frames.{GoodFrame}
+use Rattle.bisection.specs.Theorems.Crossing.Moves.{apply, own}
+use Rattle.bisection.proofs.Theorems.Crossing.Moves.{view}
+use Rattle.bisection.specs.Theorems.Crossing.Level.{LandsAt}
+use Rattle.bisection.specs.Theorems.Crossing.Walls.{Stuck}
+use Rattle.bisection.specs.Theorems.Crossing.Sound.{Allowed}
+use Rattle.bisection.proofs.Theorems.Crossing.Sound.{allowed}
+use Rattle.bisection.specs.Theorems.Crossing.Places.{cross}
 use Rattle.bisection.proofs.Theorems.Crossing.Across.{across_good}
-use Rattle.bisection.proofs.Theorems.Crossing.Boxes.{box_at, own_box_at, unit}
-use Rattle.bisection.proofs.Theorems.Crossing.Named.{frame, frame_at, frame_near, frame_far, frame_good, frame_own, by_entry, even_own}
-use Rattle.bisection.proofs.Theorems.Crossing.Rearranged.{EntryGoes, entry_goes, goes_axis, goes_sign, goes_in, signed_by}
-use Rattle.bisection.proofs.Theorems.Crossing.Carries.{BoxGoes, lands_to, box_goes, stuck_blocked, orthants_count, orthants_fit}
+use Rattle.bisection.specs.Theorems.Crossing.Boxes.{box_at, unit}
+use Rattle.bisection.proofs.Theorems.Crossing.Boxes.{own_box_at}
+use Rattle.bisection.specs.Theorems.Crossing.Named.{frame}
+use Rattle.bisection.proofs.Theorems.Crossing.Named.{frame_at, frame_near, frame_far, frame_good, frame_own, by_entry, even_own}
+use Rattle.bisection.specs.Theorems.Crossing.Rearranged.{EntryGoes}
+use Rattle.bisection.proofs.Theorems.Crossing.Rearranged.{entry_goes, goes_axis, goes_sign, goes_in, signed_by}
+use Rattle.bisection.specs.Theorems.Crossing.Carries.{BoxGoes}
+use Rattle.bisection.proofs.Theorems.Crossing.Carries.{lands_to, box_goes, stuck_blocked, orthants_count, orthants_fit}
 
 move_whole : (d k i : ℕ) (t u : Bool) → k ≡ d → move d k i t ≡ move d k i u
 unfolding move

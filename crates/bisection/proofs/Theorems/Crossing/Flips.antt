@@ -1,6 +1,6 @@
 -- An orthant byte with one bit flipped: that bit is the other, every other bit is as it was, and no bit comes to
 -- stand at d or above.
-use Rattle.std.specs.Prelude.{◌≡◌, Bool, true, false, cond, not, ◌≢◌}
+use Rattle.std.specs.Prelude.{◌≡◌, Bool, true, false, not, ◌≢◌}
 use Rattle.std.proofs.Common.{sym, ◌∙◌, subst, arith, mod-lt, mul-le-mul_right, one-add, pow_pos, pow-add, shr_lt, shr-shr, eq-eqb, ne_eqb}
 use Rattle.std.proofs.Math.Path.{ap}
 use Prim.Native.Nat.{ℕ, suc, ◌+◌, ◌-◌, ◌*◌, ◌/◌, ◌%◌, ◌^◌, ◌≤◌, ◌<◌}
@@ -9,20 +9,8 @@ use Rattle.std.proofs.Math.Dec.{eqb}
 use Rattle.std.proofs.Math.Pow.{split, high as high_part}
 use Rattle.bisection.specs.Codes.{high}
 use Rattle.bisection.proofs.Theorems.Orthants.{low_bit}
-use Rattle.bisection.proofs.Theorems.Table.{flipped}
-
--- a byte and its flip by their parts: the bits above, the bit, the bits below
-abbrev pub digit : Bool → ℕ
-digit t = cond t 1 0
-
-pub record Parts (a o : ℕ) : Type 0 where
-  pub bit : Bool
-  pub above : ℕ
-  pub below : ℕ
-  pub is : high o a ≡ bit
-  pub low : below < 2 ^ (a - 1)
-  pub byte : o ≡ (2 * above + digit bit) * 2 ^ (a - 1) + below
-  pub flip : flipped a o ≡ (2 * above + digit (not bit)) * 2 ^ (a - 1) + below
+use Rattle.bisection.specs.Theorems.Table.{flipped}
+use Rattle.bisection.specs.Theorems.Crossing.Flips.{Parts, digit}
 
 take_one : (P o u r : ℕ) → o ≡ (2 * u + 1) * P + r → o - P ≡ (2 * u + 0) * P + r
 take_one P o u r e = omega arith

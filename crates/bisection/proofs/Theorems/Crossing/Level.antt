@@ -8,31 +8,17 @@ use Rattle.std.proofs.Math.Decide.{ℕ_discrete}
 use borrow.Author.Tests.{eq-eqb, ne_eqb}
 use Rattle.bisection.proofs.Theorems.Crossing.Sums.{same_place, at_axis}
 use Rattle.bisection.proofs.Theorems.Crossing.Rows.{sides_odd}
-use Rattle.bisection.proofs.Theorems.Crossing.Frames.{Frame, GoodFrame, Meets}
-use Rattle.bisection.proofs.Theorems.Crossing.Axes.{Same, Fits, Exchange, stay, up, down, near_kept, kept, kept_past, far_kept, swapped, whole_far, whole_at, whole_near}
-use Rattle.bisection.proofs.Theorems.Table.{Move, swap, nearer, farther, trade}
-use Rattle.bisection.proofs.Theorems.Crossing.Moves.{apply, own, Lands, applies}
+use Rattle.bisection.specs.Theorems.Crossing.Frames.{Frame, GoodFrame, Meets}
+use Rattle.bisection.specs.Theorems.Crossing.Axes.{Fits, Exchange, stay, up, down}
+use Rattle.bisection.proofs.Theorems.Crossing.Axes.{near_kept, kept, kept_past, far_kept, swapped, whole_far, whole_at, whole_near}
+use Rattle.bisection.specs.Theorems.Table.{Move, swap, nearer, farther, trade}
+use Rattle.bisection.specs.Theorems.Crossing.Moves.{own, Lands}
+use Rattle.bisection.proofs.Theorems.Crossing.Moves.{applies}
+use Rattle.bisection.specs.Theorems.Crossing.Level.{LandsAt, Outcome, SameAt, Strict, at_u, at_w, crossed, other, same}
 
 -- one axis of a good frame
 pub fits : {d k : ℕ} {c : Frame} → GoodFrame d k c → (a : ℕ) → a < d → Fits d k (c.at a) (c.near a) (c.far a)
 fits g a l = record { first = g.perm.first a l; last = g.perm.last a l; sides = g.sides a l; even = g.even a l }
-
--- the frames are the same on axis a; the second lies on axis a where the row puts the first
-abbrev pub SameAt : Frame → Frame → ℕ → Type 0
-SameAt c c' a = Same (c.at a) (c.near a) (c.far a) (c'.at a) (c'.near a) (c'.far a)
-
-abbrev pub LandsAt : ℕ → ℕ → Move → Frame → Frame → ℕ → Type 0
-LandsAt d k m c c' a = Lands (apply d k m (c.at a) (c.near a) (c.far a)) (c'.at a) (c'.near a) (c'.far a)
-
-pub data Outcome (d k : ℕ) (m : Move) (c c' : Frame) : Type 0 where
-  same : ((a : ℕ) → a < d → SameAt c c' a) → Outcome d k m c c'
-  crossed : ((a : ℕ) → a < d → LandsAt d k m c c' a) → Outcome d k m c c'
-
--- two axes exchange their places, or no axis moves
-pub data Strict (u w p p' : ℕ) (Stay Go : Type 0) : Type 0 where
-  at_u : p ≡ u → p' ≡ w → Go → Strict u w p p' Stay Go
-  at_w : p ≡ w → p' ≡ u → Go → Strict u w p p' Stay Go
-  other : p ≢ u → p ≢ w → p' ≡ p → Stay → Strict u w p p' Stay Go
 
 module _ {d k : ℕ} {c c' : Frame} (g : GoodFrame d k c) (g' : GoodFrame d k c') where
   module _ {u w : ℕ} (u1 : 1 ≤ u) (ud : u ≤ d) (apart : u ≢ w) (Stay Go : ℕ → Type 0) (each : (a : ℕ) → a < d → Exchange u w (c.at a) (c'.at a) (Stay a) (Go a)) where

@@ -1,7 +1,7 @@
 -- The frame of a name: an axis stands where its entry does, its near and far sides are those of the box that the
 -- orthants give, by the entry's sign. A name that is a cell's has a good frame within the cube, and the cell that the
 -- name draws is the one that its frame draws.
-use Rattle.std.specs.Prelude.{◌≡◌, Bool, true, false, cond, not, List, [], ◌∷◌, eqb, length, get_or}
+use Rattle.std.specs.Prelude.{◌≡◌, Bool, true, false, not, List, [], ◌∷◌, eqb, length, get_or}
 use Rattle.std.proofs.Math.Path.{refl}
 use Rattle.std.proofs.Common.{sym, ap, ◌∙◌, subst, zero-add, eq-eqb, ne_eqb, eqb-true}
 use Prim.Native.Nat.{ℕ, zero, suc, ◌+◌, ◌-◌, ◌*◌, ◌/◌, ◌%◌, ◌^◌, ◌≤◌, ◌<◌}
@@ -12,38 +12,30 @@ use Rattle.dimension.specs.Laws.{Side, side_of, box_in}
 use Rattle.bisection.specs.Cells.{Cell, vertex}
 use Rattle.bisection.specs.Codes.{axis, minus, minus_on, Name}
 use Rattle.bisection.specs.Refusals.{same_sign}
-use Rattle.bisection.proofs.Theorems.Axis.{closed, closed_near, closed_far, closed_middle, near}
-use Rattle.bisection.proofs.Theorems.Entries.{Signed, Stands, stands, minus_on_entry}
-use Rattle.bisection.proofs.Theorems.Passing.{Passes, same_true, same_is}
-use Rattle.bisection.proofs.Theorems.Drawn.{Drawn, box_low, along, entry}
-use Rattle.bisection.proofs.Theorems.Table.{next_own}
-use Rattle.bisection.proofs.Theorems.Crossing.Sums.{Perm}
-use Rattle.bisection.proofs.Theorems.Crossing.Rows.{row, row_before, row_in, row_past, Sides}
-use Rattle.bisection.proofs.Theorems.Crossing.Frames.{Frame, vert, GoodFrame}
-use Rattle.bisection.proofs.Theorems.Crossing.Moves.{own}
-use Rattle.bisection.proofs.Theorems.Crossing.Walls.{InCube}
-use Rattle.bisection.proofs.Theorems.Crossing.Boxes.{box_at, box_at_fits, box_low_box_at, own_box_at, unit}
-use Rattle.bisection.proofs.Theorems.Crossing.Points.{Scaled}
-
--- the place, from 0, of the entry of axis a
-unfoldable pub place_of : List ℕ → ℕ → ℕ
-place_of [] a = 0
-place_of (e ∷ es) a = cond (eqb (axis e) a) 0 (suc (place_of es a))
+use Rattle.bisection.specs.Theorems.Axis.{closed, near}
+use Rattle.bisection.proofs.Theorems.Axis.{closed_near, closed_far, closed_middle}
+use Rattle.bisection.specs.Theorems.Entries.{Signed, Stands}
+use Rattle.bisection.proofs.Theorems.Entries.{stands, minus_on_entry}
+use Rattle.bisection.specs.Theorems.Passing.{Passes}
+use Rattle.bisection.proofs.Theorems.Passing.{same_true, same_is}
+use Rattle.bisection.specs.Theorems.Drawn.{Drawn, box_low, along, entry}
+use Rattle.bisection.specs.Theorems.Table.{next_own}
+use Rattle.bisection.specs.Theorems.Crossing.Sums.{Perm}
+use Rattle.bisection.specs.Theorems.Crossing.Rows.{row, Sides}
+use Rattle.bisection.proofs.Theorems.Crossing.Rows.{row_before, row_in, row_past}
+use Rattle.bisection.specs.Theorems.Crossing.Frames.{vert, GoodFrame}
+use Rattle.bisection.specs.Theorems.Crossing.Moves.{own}
+use Rattle.bisection.specs.Theorems.Crossing.Walls.{InCube}
+use Rattle.bisection.specs.Theorems.Crossing.Boxes.{box_at, unit}
+use Rattle.bisection.proofs.Theorems.Crossing.Boxes.{box_at_fits, box_low_box_at, own_box_at}
+use Rattle.bisection.specs.Theorems.Crossing.Points.{Scaled}
+use Rattle.bisection.specs.Theorems.Crossing.Named.{frame, place_of}
 
 place_first : (es : List ℕ) (i : ℕ) → i < length es → ((j : ℕ) → j < i → axis (get_or es j 0) ≡ axis (get_or es i 0) → ⊥) → place_of es (axis (get_or es i 0)) ≡ i
 unfolding place_of
 place_first [] i h n = absurd (omega arith)
 place_first (e ∷ es) zero h n = rw (eq-eqb (axis e) (axis e) refl)
 place_first (e ∷ es) (suc i) h n = rw (ne_eqb (axis e) (axis (get_or es i 0)) (n 0 (omega arith))) (ap suc (place_first es i (omega arith) (λ j q. n (suc j) (omega arith))))
-
--- axes from 0, places from 1
-unfoldable pub frame : Name → Frame
-frame m = record {
-  at = λ a. suc (place_of m.entries (suc a));
-  axis = λ t. axis (entry m (t - 1)) - 1;
-  near = λ a. unit (box_at (suc a) m.orthants) (minus_on m.entries (suc a));
-  far = λ a. unit (box_at (suc a) m.orthants) (not (minus_on m.entries (suc a)));
-}
 
 -- the axis of entry q
 module _ {d : ℕ} (m : Name) (g : Signed d m.entries) where

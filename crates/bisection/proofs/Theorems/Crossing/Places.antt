@@ -6,20 +6,13 @@ use Rattle.std.proofs.Math.Path.{ap}
 use Prim.Native.Nat.{ℕ, suc, ◌-◌, ◌≤◌, ◌<◌}
 use native.Mathlib.Omega.{arith}
 use Rattle.std.proofs.Math.Decide.{dec_le, ℕ_discrete}
-use Rattle.bisection.proofs.Theorems.Crossing.Sums.{Perm}
-use Rattle.bisection.proofs.Theorems.Crossing.Frames.{Frame, GoodFrame}
-use Rattle.bisection.proofs.Theorems.Table.{Move, swap, nearer, farther, trade, left, right}
-use Rattle.bisection.proofs.Theorems.Crossing.Moves.{place, places, at_place, apply}
-use Rattle.bisection.proofs.Theorems.Crossing.Sound.{Allowed, a_swap, a_near, a_far, a_left, a_right, a_trade}
-
--- the way back
-unfoldable pub opp : Move → Move
-opp (swap i) = swap i
-opp nearer = nearer
-opp farther = farther
-opp left = right
-opp right = left
-opp trade = trade
+use Rattle.bisection.specs.Theorems.Crossing.Sums.{Perm}
+use Rattle.bisection.specs.Theorems.Crossing.Frames.{Frame, GoodFrame}
+use Rattle.bisection.specs.Theorems.Table.{Move, swap, nearer, farther, trade, left, right}
+use Rattle.bisection.specs.Theorems.Crossing.Moves.{place, apply}
+use Rattle.bisection.proofs.Theorems.Crossing.Moves.{places, at_place}
+use Rattle.bisection.specs.Theorems.Crossing.Sound.{Allowed, a_swap, a_near, a_far, a_left, a_right, a_trade}
+use Rattle.bisection.specs.Theorems.Crossing.Places.{cross, opp}
 
 module _ {d k p : ℕ} (k1 : 1 ≤ k) (p1 : 1 ≤ p) (pd : p ≤ d) where
   pub place_range : {m : Move} → Allowed d k m → (1 ≤ place d k m p) × (place d k m p ≤ d)
@@ -96,15 +89,6 @@ opp_opp farther = refl
 opp_opp left = refl
 opp_opp right = refl
 opp_opp trade = refl
-
--- the cell across
-unfoldable pub cross : ℕ → ℕ → Move → Frame → Frame
-cross d k m c = record {
-  at = λ a. (apply d k m (c.at a) (c.near a) (c.far a)).at;
-  axis = λ t. c.axis (place d k (opp m) t);
-  near = λ a. (apply d k m (c.at a) (c.near a) (c.far a)).near;
-  far = λ a. (apply d k m (c.at a) (c.near a) (c.far a)).far;
-}
 
 module _ {d k : ℕ} {c : Frame} (g : GoodFrame d k c) (k1 : 1 ≤ k) {m : Move} (ok : Allowed d k m) where
   pub cross_perm : Perm d (cross d k m c).at (cross d k m c).axis

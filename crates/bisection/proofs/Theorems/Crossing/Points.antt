@@ -15,12 +15,13 @@ use Rattle.std.proofs.Math.Seq.{get_or-take, get_or-drop}
 use Rattle.dimension.specs.Sizes.{cube_side}
 use Rattle.bisection.specs.Cells.{Point, Cell, coordinate, vertex}
 use Rattle.bisection.specs.Facets.{facet, InFace, HasAll}
-use Rattle.bisection.proofs.Theorems.Drawn.{Sized}
-use Rattle.bisection.proofs.Theorems.Crossing.Frames.{Frame, vert, Meets}
-use Rattle.bisection.proofs.Theorems.Crossing.Shift.{Among, HasFacet}
-use Rattle.bisection.proofs.Theorems.Crossing.Skips.{skip, skip_before, skip_past, skip_other, skip_in, Skipped, skipped}
-use Rattle.bisection.proofs.Theorems.Crossing.Level.{SameAt}
-use Rattle.bisection.proofs.Theorems.Crossing.Walls.{Wall, bottom, top, OnWall}
+use Rattle.bisection.specs.Theorems.Crossing.Frames.{Frame, vert, Meets}
+use Rattle.bisection.specs.Theorems.Crossing.Shift.{Among, HasFacet}
+use Rattle.bisection.specs.Theorems.Crossing.Skips.{skip, Skipped}
+use Rattle.bisection.proofs.Theorems.Crossing.Skips.{skip_before, skip_past, skip_other, skip_in, skipped}
+use Rattle.bisection.specs.Theorems.Crossing.Level.{SameAt}
+use Rattle.bisection.specs.Theorems.Crossing.Walls.{Wall, bottom, top, OnWall}
+use Rattle.bisection.specs.Theorems.Crossing.Points.{OtherPlace, Scaled}
 
 -- members of a list by their places
 module _ {A : Type 0} (z : A) where
@@ -37,12 +38,6 @@ module _ {A : Type 0} (z : A) where
   place_mem [] t h = absurd (omega arith)
   place_mem (x ∷ xs) zero h = Memᴰ.head refl
   place_mem (x ∷ xs) (suc t) h = Memᴰ.tail (place_mem xs t (omega arith))
-
-pub record OtherPlace (v : Point) (i : ℕ) (vs : Cell) : Type 0 where
-  pub place : ℕ
-  pub below : place < length vs
-  pub other : place ≢ i
-  pub is : v ≡ vertex vs place
 
 -- a facet's points are the vertices at the other places, in order
 module _ (vs : Cell) (i : ℕ) (h : i < length vs) where
@@ -90,11 +85,6 @@ new_place_is vs ws j t jl tl h n = go (ℕ_discrete t j)
     go : Dec (t ≡ j) → t ≡ j
     go (yes e) = e
     go (no e) = absurd (n (h (vertex ws t) (facet_mem ws j jl t tl e)))
-
--- a cell of box side s drawn by a frame; axes from 0
-pub record Scaled (d k s : ℕ) (vs : Cell) (c : Frame) : Type 0 where
-  pub sized : Sized d vs
-  pub reads : (j a : ℕ) → j ≤ d → a < d → 2 * get_or (vertex vs j) a 0 ≡ s * vert k c j a
 
 module _ {d k s : ℕ} {vs ws : Cell} {c c' : Frame} (s0 : 0 < s) (r : Scaled d k s vs c) (r' : Scaled d k s ws c') where
   pub meets_same : (j j' : ℕ) → j ≤ d → j' ≤ d → Meets d k c j c' j' → vertex vs j ≡ vertex ws j'

@@ -11,11 +11,15 @@ use Rattle.std.proofs.Math.ListN.{length-set}
 use Rattle.std.proofs.Math.Seq.{get_or-set_same, get_or-set_other}
 use borrow.Author.Tests.{eq-eqb, ne_eqb}
 use Rattle.bisection.specs.Codes.{axis, minus, negated}
-use Rattle.bisection.proofs.Theorems.Entries.{Signed, axis_negated, minus_negated, turned_before, turned_at, turned_past, turned_length, unturned, unturned_moved, unturned_past, unturned_length, signed_along}
-use Rattle.bisection.proofs.Theorems.Table.{Move, swap, nearer, farther, left, right, trade, exchanged, negated_at, entries_by}
-use Rattle.bisection.proofs.Theorems.Crossing.Sound.{Allowed, a_swap, a_near, a_far, a_left, a_right, a_trade}
-use Rattle.bisection.proofs.Theorems.Crossing.Moves.{place, places, negates}
-use Rattle.bisection.proofs.Theorems.Crossing.Places.{opp, place_range, place_back, allowed_opp, opp_opp}
+use Rattle.bisection.specs.Theorems.Entries.{Signed, unturned}
+use Rattle.bisection.proofs.Theorems.Entries.{axis_negated, minus_negated, turned_before, turned_at, turned_past, turned_length, unturned_moved, unturned_past, unturned_length, signed_along}
+use Rattle.bisection.specs.Theorems.Table.{Move, swap, nearer, farther, left, right, trade, exchanged, negated_at, entries_by}
+use Rattle.bisection.specs.Theorems.Crossing.Sound.{Allowed, a_swap, a_near, a_far, a_left, a_right, a_trade}
+use Rattle.bisection.specs.Theorems.Crossing.Moves.{place, negates}
+use Rattle.bisection.proofs.Theorems.Crossing.Moves.{places}
+use Rattle.bisection.specs.Theorems.Crossing.Places.{opp}
+use Rattle.bisection.proofs.Theorems.Crossing.Places.{place_range, place_back, allowed_opp, opp_opp}
+use Rattle.bisection.specs.Theorems.Crossing.Rearranged.{EntryGoes}
 
 -- two entries exchanged, one negated
 module _ (t u : ℕ) (es : List ℕ) (lt : t < length es) (lu : u < length es) where
@@ -54,14 +58,6 @@ module _ (t : ℕ) (es : List ℕ) where
   pub negated_at_length : length (negated_at t es) ≡ length es
   unfolding negated_at
   negated_at_length = simp length-set
-
--- the entry at q, from 0, goes to `to`
-pub record EntryGoes (d k : ℕ) (m : Move) (es : List ℕ) (q : ℕ) : Type 0 where
-  pub to : ℕ
-  pub turn : Bool
-  pub place_is : place d k m (suc q) ≡ suc to
-  pub turn_is : negates d k m (suc q) ≡ turn
-  pub entry_is : get_or (entries_by d k m es) to 0 ≡ cond turn (negated (get_or es q 0)) (get_or es q 0)
 
 module _ {d k : ℕ} (es : List ℕ) (size : length es ≡ d) (k1 : 1 ≤ k) (q : ℕ) (l : q < d) where
   in_list : {t : ℕ} → t < d → t < length es

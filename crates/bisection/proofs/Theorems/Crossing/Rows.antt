@@ -1,12 +1,10 @@
 -- One axis of a cell, counted in halves of the box's side: an axis at place p, with its near side x box sides and its
 -- far side y box sides from the cube's low side, has 2x at the vertices before p, 2y from p to k, and x + y past k.
-use Rattle.std.specs.Prelude.{◌≡◌, cond, ◌≢◌, ℕ, suc, ◌+◌, ◌*◌, ◌%◌, ◌≤◌, ◌<◌, ltb, leb}
+use Rattle.std.specs.Prelude.{◌≡◌, ◌≢◌, ℕ, suc, ◌+◌, ◌*◌, ◌%◌, ◌≤◌, ◌<◌}
 use Rattle.std.proofs.Common.{sym, arith}
 use Rattle.std.proofs.Math.Decide.{dec_lt, dec_le}
 use borrow.Author.Tests.{lt-ltb, le-ltb, le-leb, lt-leb}
-
-unfoldable pub row : ℕ → ℕ → ℕ → ℕ → ℕ → ℕ
-row k p x y j = cond (ltb j p) (2 * x) (cond (leb j k) (2 * y) (x + y))
+use Rattle.bisection.specs.Theorems.Crossing.Rows.{Sides, row}
 
 module _ (k p x y j : ℕ) where
   pub row_before : j < p → row k p x y j ≡ 2 * x
@@ -20,12 +18,6 @@ module _ (k p x y j : ℕ) where
   pub row_past : p ≤ j → k < j → row k p x y j ≡ x + y
   unfolding row
   row_past q r = simp (le-ltb j p q, lt-leb j k r)
-
--- near and far are one apart
-pub record Sides (x y : ℕ) : Type 0 where
-  pub down : x ≤ suc y
-  pub up : y ≤ suc x
-  pub apart : x ≢ y
 
 pub sides_turn : {x y : ℕ} → Sides x y → Sides y x
 sides_turn s = record { down = s.up; up = s.down; apart = λ q. s.apart (sym q) }

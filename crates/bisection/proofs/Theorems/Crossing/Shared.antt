@@ -1,19 +1,26 @@
 -- The frame across has the facet's vertices, in their order. Its one other vertex is new: a frame is known by its
 -- vertices, and the two frames differ. And the new place is an end of the split edge just where the old one is.
-use Rattle.std.specs.Prelude.{◌≡◌, refl, Bool, ◌⊎◌, ◌≢◌}
+use Rattle.std.specs.Prelude.{◌≡◌, refl, Bool, ◌≢◌}
 use Rattle.std.proofs.Common.{sym, subst, inl, inr}
 use Prim.Native.Nat.{ℕ, suc, ◌-◌, ◌*◌, ◌≤◌, ◌<◌}
 use native.Mathlib.Omega.{arith}
 use Rattle.std.proofs.Math.Decide.{dec_lt, ℕ_discrete}
-use Rattle.bisection.proofs.Theorems.Crossing.Rows.{row}
-use Rattle.bisection.proofs.Theorems.Crossing.Frames.{Frame, vert, GoodFrame, Meets}
-use Rattle.bisection.proofs.Theorems.Crossing.Shift.{Among, HasFacet, Shift, shift, level, slid_left, slid_right}
-use Rattle.bisection.proofs.Theorems.Crossing.Axes.{Fits, near_kept, kept_past, far_kept}
-use Rattle.bisection.proofs.Theorems.Table.{Move, swap, nearer, farther, trade, left, right, new_at}
-use Rattle.bisection.proofs.Theorems.Crossing.Moves.{apply, own, Lands, applies, Moved, is_near, is_far, is_left, is_trade, is_edge, is_right, is_swap}
-use Rattle.bisection.proofs.Theorems.Crossing.Level.{SameAt, LandsAt, fits}
-use Rattle.bisection.proofs.Theorems.Crossing.Skips.{skip, skip_before, skip_past, skip_other, skip_in, Skipped, skipped}
-use Rattle.bisection.proofs.Theorems.Crossing.Sound.{Allowed, a_swap, a_near, a_far, a_left, a_right, a_trade, allowed, Goes, g_swap, g_near, g_far, g_trade, g_left, g_left_on, g_right, g_right_on, axis_sound}
+use Rattle.bisection.specs.Theorems.Crossing.Rows.{row}
+use Rattle.bisection.specs.Theorems.Crossing.Frames.{Frame, vert, GoodFrame, Meets}
+use Rattle.bisection.specs.Theorems.Crossing.Shift.{Among, HasFacet, Shift, level, slid_left, slid_right}
+use Rattle.bisection.proofs.Theorems.Crossing.Shift.{shift}
+use Rattle.bisection.specs.Theorems.Crossing.Axes.{Fits}
+use Rattle.bisection.proofs.Theorems.Crossing.Axes.{near_kept, kept_past, far_kept}
+use Rattle.bisection.specs.Theorems.Table.{Move, swap, nearer, farther, trade, left, right, new_at}
+use Rattle.bisection.specs.Theorems.Crossing.Moves.{apply, own, Lands, Moved, is_near, is_far, is_left, is_trade, is_edge, is_right, is_swap}
+use Rattle.bisection.proofs.Theorems.Crossing.Moves.{applies}
+use Rattle.bisection.specs.Theorems.Crossing.Level.{SameAt, LandsAt}
+use Rattle.bisection.proofs.Theorems.Crossing.Level.{fits}
+use Rattle.bisection.specs.Theorems.Crossing.Skips.{skip, Skipped}
+use Rattle.bisection.proofs.Theorems.Crossing.Skips.{skip_before, skip_past, skip_other, skip_in, skipped}
+use Rattle.bisection.specs.Theorems.Crossing.Sound.{Allowed, a_swap, a_near, a_far, a_left, a_right, a_trade, Goes, g_swap, g_near, g_far, g_trade, g_left, g_left_on, g_right, g_right_on}
+use Rattle.bisection.proofs.Theorems.Crossing.Sound.{allowed, axis_sound}
+use Rattle.bisection.specs.Theorems.Crossing.Shared.{Ends}
 
 -- a cell is known by its vertices
 module _ {d k : ℕ} {c c' : Frame} (k1 : 1 ≤ k) (kd : k ≤ d) (g : GoodFrame d k c) (g' : GoodFrame d k c') (all : (j : ℕ) → j ≤ d → Among d k c j c') where
@@ -117,12 +124,6 @@ module _ {d k i : ℕ} {c c' : Frame} (k1 : 1 ≤ k) (kd : k ≤ d) (il : i ≤ 
           go : Dec (j ≡ new_at d k m) → Among d k c' j c
           go (yes e) = subst (λ (t : ℕ). Among d k c' t c) (sym e) w
           go (no e) = has_back j l e
-
--- the new vertex stands at an end of the split edge just where the facet's lacking one does, and else where that one does
-pub record Ends (k i j : ℕ) : Type 0 where
-  pub there : (i ≡ 0) ⊎ (i ≡ k) → (j ≡ 0) ⊎ (j ≡ k)
-  pub back : (j ≡ 0) ⊎ (j ≡ k) → (i ≡ 0) ⊎ (i ≡ k)
-  pub inner : i ≢ 0 → i ≢ k → j ≡ i
 
 pub ends : {d k i : ℕ} {b : Bool} {m : Move} → Moved d k i b m → Ends k i (new_at d k m)
 unfolding new_at

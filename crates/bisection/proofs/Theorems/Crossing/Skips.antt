@@ -1,12 +1,9 @@
 -- The places of a cell but one, in order: the places of a facet.
-use Rattle.std.specs.Prelude.{◌≡◌, cond, ◌≢◌, ℕ, suc, ◌-◌, ◌≤◌, ◌<◌, ltb}
+use Rattle.std.specs.Prelude.{◌≡◌, ◌≢◌, ℕ, suc, ◌-◌, ◌≤◌, ◌<◌}
 use Rattle.std.proofs.Common.{◌∙◌, arith}
 use Rattle.std.proofs.Math.Decide.{dec_lt}
 use borrow.Author.Tests.{lt-ltb, le-ltb}
-
--- the places but i, in order
-unfoldable pub skip : ℕ → ℕ → ℕ
-skip i t = cond (ltb t i) t (suc t)
+use Rattle.bisection.specs.Theorems.Crossing.Skips.{Skipped, skip}
 
 module _ (i t : ℕ) where
   pub skip_before : t < i → skip i t ≡ t
@@ -40,12 +37,6 @@ skip_one i t t' e = go (dec_lt t i) (dec_lt t' i)
     go (yes h) (no h') = omega (arith, skip_before i t h, skip_past i t' (omega arith))
     go (no h) (yes h') = omega (arith, skip_past i t (omega arith), skip_before i t' h')
     go (no h) (no h') = omega (arith, skip_past i t (omega arith), skip_past i t' (omega arith))
-
--- every other place is met
-pub record Skipped (d i u : ℕ) : Type 0 where
-  pub from : ℕ
-  pub below : from < d
-  pub is : skip i from ≡ u
 
 pub skipped : {d : ℕ} (i u : ℕ) → i ≤ d → u ≤ d → u ≢ i → Skipped d i u
 skipped {d} i u il l n = go (dec_lt u i)

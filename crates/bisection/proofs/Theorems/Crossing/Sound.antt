@@ -1,21 +1,15 @@
 -- Which vertex of the frame across a vertex of a frame is, row by row, and that the two have the same coordinate on
 -- every axis.
-use Rattle.std.specs.Prelude.{◌≡◌, refl, Bool, ◌≢◌, ℕ, suc, ◌-◌, ◌*◌, ◌≤◌, ◌<◌}
+use Rattle.std.specs.Prelude.{◌≡◌, refl, Bool, ℕ, suc, ◌-◌, ◌*◌, ◌≤◌, ◌<◌}
 use Rattle.std.proofs.Common.{sym, ◌∙◌, arith}
 use Rattle.std.proofs.Math.Decide.{dec_lt, dec_le, ℕ_discrete}
-use Rattle.bisection.proofs.Theorems.Crossing.Rows.{row, row_before, row_in, row_past}
-use Rattle.bisection.proofs.Theorems.Crossing.Axes.{Fits}
-use Rattle.bisection.proofs.Theorems.Table.{Move, swap, nearer, farther, trade, left, right}
-use Rattle.bisection.proofs.Theorems.Crossing.Moves.{Spot, apply, applies, Moved, is_near, is_far, is_left, is_trade, is_edge, is_right, is_swap}
-
--- the rows that some facet takes
-pub data Allowed (d k : ℕ) : Move → Type 0 where
-  a_swap : {i : ℕ} → 1 ≤ i → i < d → Allowed d k (swap i)
-  a_near : Allowed d k nearer
-  a_far : k ≡ d → Allowed d k farther
-  a_left : k < d → Allowed d k left
-  a_right : k < d → Allowed d k right
-  a_trade : k < d → Allowed d k trade
+use Rattle.bisection.specs.Theorems.Crossing.Rows.{row}
+use Rattle.bisection.proofs.Theorems.Crossing.Rows.{row_before, row_in, row_past}
+use Rattle.bisection.specs.Theorems.Crossing.Axes.{Fits}
+use Rattle.bisection.specs.Theorems.Table.{Move, swap, nearer, farther, trade, left, right}
+use Rattle.bisection.specs.Theorems.Crossing.Moves.{apply, Moved, is_near, is_far, is_left, is_trade, is_edge, is_right, is_swap}
+use Rattle.bisection.proofs.Theorems.Crossing.Moves.{applies}
+use Rattle.bisection.specs.Theorems.Crossing.Sound.{Allowed, Goes, RowAt, a_far, a_left, a_near, a_right, a_swap, a_trade, g_far, g_left, g_left_on, g_near, g_right, g_right_on, g_swap, g_trade}
 
 pub allowed : {d k i : ℕ} {b : Bool} {m : Move} → 1 ≤ k → k ≤ d → i ≤ d → Moved d k i b m → Allowed d k m
 allowed k1 kd il (is_near e) = a_near
@@ -25,17 +19,6 @@ allowed k1 kd il (is_trade e z q r) = a_trade (omega arith)
 allowed {k = k} k1 kd il (is_edge e z q r) = a_swap {i = k} k1 (omega arith)
 allowed k1 kd il (is_right e z q r) = a_right (omega arith)
 allowed {i = i} k1 kd il (is_swap e z q) = a_swap {i = i} (omega arith) (omega arith)
-
--- vertex j of the cell is vertex j' of the cell across
-pub data Goes (d k : ℕ) : Move → ℕ → ℕ → Type 0 where
-  g_swap : {i j : ℕ} → j ≢ i → Goes d k (swap i) j j
-  g_near : {j : ℕ} → j ≢ d → Goes d k nearer j j
-  g_far : {j : ℕ} → j ≢ 0 → Goes d k farther j j
-  g_trade : {j : ℕ} → j ≢ 0 → Goes d k trade j j
-  g_left : {j : ℕ} → j < k → Goes d k left (suc j) j
-  g_left_on : {j : ℕ} → k < j → Goes d k left j j
-  g_right : {j : ℕ} → j < k → Goes d k right j (suc j)
-  g_right_on : {j : ℕ} → k < j → Goes d k right j j
 
 -- two rows of coordinates, one value: the axis before or after its place in both, or turned round
 module _ (k x y p q i j : ℕ) where
@@ -53,9 +36,6 @@ module _ (k x y p q i j : ℕ) where
       go : Dec (i ≤ k) → row k p x y i ≡ row k q y x j
       go (yes v) = row_in k p x y i (omega arith) v ∙ sym (row_before k q y x j (omega (arith, l v)))
       go (no v) = let t : k < i = omega arith in omega (arith, row_past k p x y i (omega arith) t, row_past k q y x j (omega (arith, h t)) (h t))
-
-abbrev pub RowAt : ℕ → Spot → ℕ → ℕ
-RowAt k t j = row k t.at t.near t.far j
 
 module _ {d k p x y : ℕ} (o : Fits d k p x y) (k1 : 1 ≤ k) where
   pub axis_sound : {m : Move} {j j' : ℕ} → Allowed d k m → Goes d k m j j' → j ≤ d → row k p x y j ≡ RowAt k (apply d k m p x y) j'

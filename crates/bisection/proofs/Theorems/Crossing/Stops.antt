@@ -1,7 +1,7 @@
 -- Where a carry stops. It leaves the orthants before a bit that stops it as they are. At the start of a level entry 1
 -- carries the box's own sign, so that the carry across facet 0 stops at the last orthant: its bit of that axis flips,
 -- and there is no cell across only where there is no orthant.
-use Rattle.std.specs.Prelude.{◌≡◌, Bool, true, false, not, ◌&&◌, ℕ, suc, ◌-◌, ◌<◌, eqb, length, get_or, set}
+use Rattle.std.specs.Prelude.{◌≡◌, Bool, true, false, not, ◌&&◌, ℕ, suc, ◌<◌, eqb, length}
 use Rattle.std.proofs.Math.Path.{refl, ap}
 use Rattle.std.proofs.Common.{◌∙◌}
 use mathlib.Core.List.{List, [], ◌∷◌, ◌++◌}
@@ -9,10 +9,11 @@ use Rattle.std.proofs.Math.Dec.{eqb-suc-zero}
 use Rattle.dimension.specs.Laws.{split_range}
 use Rattle.bisection.specs.Codes.{axis, minus, high, Name}
 use Rattle.bisection.specs.Refusals.{own_minus, same_sign}
-use Rattle.bisection.proofs.Theorems.Passing.{Passes}
+use Rattle.bisection.specs.Theorems.Passing.{Passes}
 use Rattle.bisection.proofs.Theorems.Checked.{and_false}
-use Rattle.bisection.proofs.Theorems.Table.{farther, flipped, runs_out, carried, first_entry, orthants_by, blocked_by}
+use Rattle.bisection.specs.Theorems.Table.{farther, runs_out, carried, first_entry, orthants_by, blocked_by}
 use Rattle.bisection.proofs.Theorems.Crossing.Boxes.{less, own_cons}
+use Rattle.bisection.specs.Theorems.Crossing.Stops.{last_flipped}
 
 module _ (up : Bool) (a : ℕ) (ys : List ℕ) (e : runs_out up a ys ≡ false) where
   pub runs_out_front : (xs : List ℕ) → runs_out up a (xs ++ ys) ≡ false
@@ -24,10 +25,6 @@ module _ (up : Bool) (a : ℕ) (ys : List ℕ) (e : runs_out up a ys ≡ false) 
   unfolding carried
   carried_front [] = refl
   carried_front (x ∷ xs) = rw (runs_out_front xs, carried_front xs) refl
-
--- the last orthant's bit of axis a flipped
-unfoldable pub last_flipped : ℕ → List ℕ → List ℕ
-last_flipped a os = set os (length os - 1) (flipped a (get_or os (length os - 1) 0))
 
 same_not : (t : Bool) → (same_sign t (not t) && true) ≡ false
 same_not true = refl

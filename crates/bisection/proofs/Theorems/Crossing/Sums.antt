@@ -5,10 +5,7 @@ use Rattle.std.proofs.Math.Path.{refl}
 use Rattle.std.proofs.Common.{sym, ap, ◌∙◌, subst, arith}
 use Prim.Native.Nat.{ℕ, zero, suc, ◌+◌, ◌-◌, ◌≤◌, ◌<◌}
 use Rattle.std.proofs.Math.Decide.{ℕ_discrete}
-
-unfoldable pub sum : (ℕ → ℕ) → ℕ → ℕ
-sum f zero = 0
-sum f (suc n) = f n + sum f n
+use Rattle.bisection.specs.Theorems.Crossing.Sums.{Perm, sum, up_to}
 
 module _ (f g : ℕ → ℕ) where
   pub sum_same : (d : ℕ) → ((a : ℕ) → a < d → f a ≡ g a) → sum f d ≡ sum g d
@@ -34,18 +31,6 @@ sum_one f (suc n) x l e o = go (ℕ_discrete x n) (λ q. sum_one f n x q e (λ a
     go : Dec (x ≡ n) → (x < n → sum f n ≡ 1) → f n + sum f n ≡ 1
     go (yes q) ih = omega (arith, subst (λ (y : ℕ). f y ≡ 1) q e, sum_none f n (λ a l. o a (omega arith) (omega arith)))
     go (no q) ih = omega (arith, o n (omega arith) (omega arith), ih (omega arith))
-
--- p takes the axes 0..d-1 to the places 1..d, and q takes the places back
-pub record Perm (d : ℕ) (p q : ℕ → ℕ) : Type 0 where
-  pub first : (a : ℕ) → a < d → 1 ≤ p a
-  pub last : (a : ℕ) → a < d → p a ≤ d
-  pub axis : (t : ℕ) → 1 ≤ t → t ≤ d → q t < d
-  pub back : (t : ℕ) → 1 ≤ t → t ≤ d → p (q t) ≡ t
-  pub again : (a : ℕ) → a < d → q (p a) ≡ a
-
--- 1 if p ≤ j, else 0
-abbrev pub up_to : ℕ → ℕ → ℕ
-up_to j p = 1 - (p - j)
 
 module _ {d : ℕ} {p q : ℕ → ℕ} (m : Perm d p q) where
   pub same_place : (a b : ℕ) → a < d → b < d → p a ≡ p b → a ≡ b

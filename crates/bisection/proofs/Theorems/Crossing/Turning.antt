@@ -7,21 +7,16 @@ use Rattle.std.proofs.Math.Decide.{dec_lt, ℕ_discrete}
 use borrow.Author.Tests.{eq-eqb, ne_eqb}
 use Rattle.bisection.proofs.Theorems.Crossing.Sums.{same_place}
 use Rattle.bisection.proofs.Theorems.Crossing.Rows.{sides_odd}
-use Rattle.bisection.proofs.Theorems.Crossing.Frames.{Frame, GoodFrame}
-use Rattle.bisection.proofs.Theorems.Crossing.Shift.{Slid}
-use Rattle.bisection.proofs.Theorems.Crossing.Axes.{Turn, first, inner, edge, past, no_turn, turned}
-use Rattle.bisection.proofs.Theorems.Table.{left, right}
-use Rattle.bisection.proofs.Theorems.Crossing.Moves.{own, applies}
-use Rattle.bisection.proofs.Theorems.Crossing.Level.{fits, LandsAt}
-
--- turned corners: one axis
-pub data Rolled (k p x y p' x' y' : ℕ) : Type 0 where
-  head : p ≡ 1 → p' ≡ suc k → x' ≡ y → y' ≡ x → Rolled k p x y p' x' y'
-  body : 2 ≤ p → p ≤ suc k → suc p' ≡ p → x' ≡ x → y' ≡ y → Rolled k p x y p' x' y'
-  tail : suc k < p → p' ≡ p → x' ≡ x → y' ≡ y → Rolled k p x y p' x' y'
-
-abbrev pub RolledAt : ℕ → Frame → Frame → ℕ → Type 0
-RolledAt k c c' a = Rolled k (c.at a) (c.near a) (c.far a) (c'.at a) (c'.near a) (c'.far a)
+use Rattle.bisection.specs.Theorems.Crossing.Frames.{Frame, GoodFrame}
+use Rattle.bisection.specs.Theorems.Crossing.Shift.{Slid}
+use Rattle.bisection.specs.Theorems.Crossing.Axes.{Turn, first, inner, edge, past}
+use Rattle.bisection.proofs.Theorems.Crossing.Axes.{no_turn, turned}
+use Rattle.bisection.specs.Theorems.Table.{left, right}
+use Rattle.bisection.specs.Theorems.Crossing.Moves.{own}
+use Rattle.bisection.proofs.Theorems.Crossing.Moves.{applies}
+use Rattle.bisection.specs.Theorems.Crossing.Level.{LandsAt}
+use Rattle.bisection.proofs.Theorems.Crossing.Level.{fits}
+use Rattle.bisection.specs.Theorems.Crossing.Turning.{RolledAt, body, head, tail}
 
 module _ {d k : ℕ} {c c' : Frame} (g : GoodFrame d k c) (g' : GoodFrame d k c') (k1 : 1 ≤ k) (kd : k ≤ d) (t : Slid d k c c') where
   th : ℕ

@@ -1,11 +1,14 @@
 -- A frame that has all vertices of facet i of another is that frame, or lies where the table's row puts it.
 use Rattle.std.specs.Prelude.{◌≡◌, ◌≢◌, ℕ, ◌≤◌, T}
 use Rattle.std.proofs.Common.{sym, ap, ◌∙◌, subst, arith}
-use Rattle.bisection.proofs.Theorems.Crossing.Frames.{Frame, GoodFrame, Meets}
-use Rattle.bisection.proofs.Theorems.Crossing.Shift.{HasFacet, Shift, level, slid_left, slid_right, shift}
-use Rattle.bisection.proofs.Theorems.Table.{Move, swap, farther, trade, left, right, move}
-use Rattle.bisection.proofs.Theorems.Crossing.Moves.{own, move_left, move_right, Moved, view, is_near, is_far, is_left, is_trade, is_edge, is_right, is_swap}
-use Rattle.bisection.proofs.Theorems.Crossing.Level.{Outcome, same, crossed, inside, ending, starting, opening, swap_own, trade_own}
+use Rattle.bisection.specs.Theorems.Crossing.Frames.{Frame, GoodFrame, Meets}
+use Rattle.bisection.specs.Theorems.Crossing.Shift.{HasFacet, Shift, level, slid_left, slid_right}
+use Rattle.bisection.proofs.Theorems.Crossing.Shift.{shift}
+use Rattle.bisection.specs.Theorems.Table.{Move, swap, farther, trade, left, right, move}
+use Rattle.bisection.specs.Theorems.Crossing.Moves.{own, Moved, is_near, is_far, is_left, is_trade, is_edge, is_right, is_swap}
+use Rattle.bisection.proofs.Theorems.Crossing.Moves.{move_left, move_right, view}
+use Rattle.bisection.specs.Theorems.Crossing.Level.{Outcome, same, crossed}
+use Rattle.bisection.proofs.Theorems.Crossing.Level.{inside, ending, starting, opening, swap_own, trade_own}
 use Rattle.bisection.proofs.Theorems.Crossing.Turning.{not_whole, left_own, lefts, right_own, rights}
 
 -- k = d, put in place of d

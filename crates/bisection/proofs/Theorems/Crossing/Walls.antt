@@ -4,36 +4,16 @@ use Rattle.std.specs.Prelude.{◌≡◌, refl, ◌≢◌, ℕ, ◌-◌, ◌*◌,
 use Rattle.std.proofs.Common.{sym, ap, ◌∙◌, subst, arith}
 use Rattle.std.proofs.Math.Decide.{dec_le}
 use Rattle.bisection.proofs.Theorems.Crossing.Sums.{at_axis}
-use Rattle.bisection.proofs.Theorems.Crossing.Rows.{row_before, row_in, row_past, row_after, Sides, sides_turn, sides_odd}
-use Rattle.bisection.proofs.Theorems.Crossing.Frames.{Frame, vert, GoodFrame}
-use Rattle.bisection.proofs.Theorems.Crossing.Shift.{HasFacet}
-use Rattle.bisection.proofs.Theorems.Table.{Move, nearer, farther, move}
-use Rattle.bisection.proofs.Theorems.Crossing.Moves.{own, Lands, applies, Moved, view, is_near, is_far, is_left, is_trade, is_edge, is_right, is_swap}
-use Rattle.bisection.proofs.Theorems.Crossing.Level.{Outcome, same, crossed, SameAt, LandsAt}
+use Rattle.bisection.specs.Theorems.Crossing.Rows.{Sides}
+use Rattle.bisection.proofs.Theorems.Crossing.Rows.{row_before, row_in, row_past, row_after, sides_turn, sides_odd}
+use Rattle.bisection.specs.Theorems.Crossing.Frames.{Frame, GoodFrame}
+use Rattle.bisection.specs.Theorems.Crossing.Shift.{HasFacet}
+use Rattle.bisection.specs.Theorems.Table.{Move, move}
+use Rattle.bisection.specs.Theorems.Crossing.Moves.{own, Lands, Moved, is_near, is_far, is_left, is_trade, is_edge, is_right, is_swap}
+use Rattle.bisection.proofs.Theorems.Crossing.Moves.{applies, view}
+use Rattle.bisection.specs.Theorems.Crossing.Level.{Outcome, same, crossed, SameAt, LandsAt}
 use Rattle.bisection.proofs.Theorems.Crossing.Unique.{unique}
-
--- the cube has N box sides on each axis
-pub record InCube (N d : ℕ) (c : Frame) : Type 0 where
-  pub near : (a : ℕ) → a < d → c.near a ≤ N
-  pub far : (a : ℕ) → a < d → c.far a ≤ N
-
--- a wall: 0 or N
-pub data Wall (N : ℕ) : ℕ → Type 0 where
-  bottom : Wall N 0
-  top : Wall N N
-
--- the rows that move the box, with a wall where they lead
-pub data Stuck (N d : ℕ) (c : Frame) : Move → Type 0 where
-  end : Wall N (c.near (c.axis d)) → Stuck N d c nearer
-  start : Wall N (c.far (c.axis 1)) → Stuck N d c farther
-
--- some axis has the same coordinate, a wall's, at all vertices of the facet
-pub record OnWall (N d k i : ℕ) (c : Frame) : Type 0 where
-  pub axis : ℕ
-  pub real : axis < d
-  pub wall : ℕ
-  pub is_wall : Wall N wall
-  pub flat : (j : ℕ) → j ≤ d → j ≢ i → vert k c j axis ≡ 2 * wall
+use Rattle.bisection.specs.Theorems.Crossing.Walls.{InCube, OnWall, Stuck, Wall, bottom, end, start, top}
 
 -- from a wall the other side is out of the cube
 past_wall : {N w x y : ℕ} → Wall N w → w ≡ x → y ≤ N → 2 * x - y ≤ N → Sides x y → Sides x (2 * x - y) → ⊥

@@ -5,19 +5,7 @@ use Rattle.std.proofs.Math.Decide.{dec_lt}
 use Rattle.std.proofs.Math.IntN.{sub_ℕ}
 use Rattle.bisection.specs.Weights.{sum_to}
 use Rattle.bisection.specs.Slopes.{sumℤ}
-
--- a number's own difference, one side of which is 0
-abbrev pub over : ℤ → ℕ
-over (pos n) = n
-over (negsuc n) = 0
-
-abbrev pub under : ℤ → ℕ
-under (pos n) = 0
-under (negsuc n) = suc n
-
--- z is p less q
-pub record Less (z : ℤ) (p q : ℕ) : Type 0 where
-  pub is : p + under z ≡ q + over z
+use Rattle.bisection.specs.Theorems.Slopes.Differences.{Less, over, under}
 
 pub less_own : (z : ℤ) → Less z (over z) (under z)
 less_own z = record { is = omega arith }

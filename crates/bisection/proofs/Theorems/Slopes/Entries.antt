@@ -11,14 +11,16 @@ use Rattle.bisection.specs.Cells.{Cell}
 use Rattle.bisection.specs.Codes.{axis, minus, Name}
 use Rattle.bisection.specs.Weights.{sum_to}
 use Rattle.bisection.specs.Slopes.{sumℤ, on_axis, apart, Linear}
-use Rattle.bisection.proofs.Theorems.Entries.{Signed}
-use Rattle.bisection.proofs.Theorems.Drawn.{Drawn, along, entry}
-use Rattle.bisection.proofs.Theorems.Geometry.{Moves}
+use Rattle.bisection.specs.Theorems.Entries.{Signed}
+use Rattle.bisection.specs.Theorems.Drawn.{Drawn, along, entry}
+use Rattle.bisection.specs.Theorems.Geometry.{Moves}
 use Rattle.bisection.proofs.Theorems.Weights.Sums.{sum_same, sum_add, sum_scale}
 use Rattle.bisection.proofs.Theorems.Weights.Offsets.{offset, offset_none, offset_some, away}
-use Rattle.bisection.proofs.Theorems.Slopes.Differences.{over, under, Less, less_same, less_one, less_sub, less_sum, less_times, less_mul}
+use Rattle.bisection.specs.Theorems.Slopes.Differences.{over, under, Less}
+use Rattle.bisection.proofs.Theorems.Slopes.Differences.{less_same, less_one, less_sub, less_sum, less_times, less_mul}
 use Rattle.bisection.proofs.Theorems.Slopes.Places.{axes_by_entries}
-use Rattle.bisection.proofs.Theorems.Slopes.Rising.{reach, Balanced}
+use Rattle.bisection.specs.Theorems.Slopes.Rising.{reach}
+use Rattle.bisection.proofs.Theorems.Slopes.Rising.{Balanced}
 
 -- sums of terms that balance
 sums_balance : (n : ℕ) (a b c e : ℕ → ℕ) → ((t : ℕ) → t < n → a t + b t ≡ c t + e t) → sum_to n a + sum_to n b ≡ sum_to n c + sum_to n e

@@ -3,24 +3,22 @@
 use Rattle.std.specs.Prelude.{◌≡◌, refl, Bool, true, false, cond, List, [], ◌∷◌, ℕ, zero, suc, ◌+◌, ◌-◌, ◌≤◌, ◌<◌, ℤ, pos, length, get_or}
 use Rattle.std.proofs.Common.{sym, ap, ◌∙◌, arith, ext_get_or}
 use Rattle.std.proofs.Math.Numerals.{unary_clauses}
-use Rattle.std.proofs.Math.IntN.{sub_ℕ}
 use Rattle.dimension.specs.Sizes.{greatest_depth, split_place, box_side}
 use Rattle.dimension.specs.Laws.{side_of}
 use Rattle.bisection.specs.Cells.{Cell, cell_of}
 use Rattle.bisection.specs.Roots.{GoodRoot}
 use Rattle.bisection.specs.Codes.{axis, minus, Name, name_of}
 use Rattle.bisection.specs.Slopes.{on_axis, Linear}
-use Rattle.bisection.proofs.Theorems.Entries.{Signed, Stands, stands}
-use Rattle.bisection.proofs.Theorems.Drawn.{Drawn, entry}
+use Rattle.bisection.specs.Theorems.Entries.{Signed, Stands}
+use Rattle.bisection.proofs.Theorems.Entries.{stands}
+use Rattle.bisection.specs.Theorems.Drawn.{Drawn, entry}
 use Rattle.bisection.proofs.Theorems.Geometry.{closed_form}
 use Rattle.bisection.proofs.Theorems.CodePaths.{some_axes, name_passes}
-use Rattle.bisection.proofs.Theorems.Slopes.Differences.{over, under, less_one, less_sub}
-use Rattle.bisection.proofs.Theorems.Slopes.Rising.{rising, falling, Front, balanced_front, front_balanced, fronts_rise, fronts}
+use Rattle.bisection.specs.Theorems.Slopes.Differences.{over, under}
+use Rattle.bisection.proofs.Theorems.Slopes.Differences.{less_one, less_sub}
+use Rattle.bisection.proofs.Theorems.Slopes.Rising.{Front, balanced_front, front_balanced, fronts_rise, fronts}
 use Rattle.bisection.proofs.Theorems.Slopes.Entries.{up, down, slope_balanced, balanced_slope}
-
--- p less q by a sign
-abbrev pub by_sign : Bool → ℕ → ℕ → ℤ
-by_sign m p q = cond m (sub_ℕ q p) (sub_ℕ p q)
+use Rattle.bisection.specs.Theorems.Slopes.One.{OneSlope, along_entry, by_sign}
 
 number_is : (m : Bool) (z : ℤ) (p q : ℕ) → p + cond m (over z) (under z) ≡ q + cond m (under z) (over z) → z ≡ by_sign m p q
 number_is false z p q e = less_one {z = z} {p = p} {q = q} (record { is = e }) (less_sub p q) refl
@@ -50,10 +48,6 @@ listed (suc n) R h = more (h 0 (omega arith)) (listed n (λ t. R (suc t)) (λ t 
         each : (t : ℕ) → t < suc n → R t (get_or (z.number ∷ rest.list) t (pos 0))
         each zero l = z.holds
         each (suc t) l = rest.each t (omega arith)
-
--- the closed form along entry i of a name: for k the split place
-unfoldable pub along_entry : ℕ → Name → (ℕ → ℕ) → ℕ → ℤ
-along_entry k m f i = by_sign (minus (entry m i)) (rising f k i) (falling f k i)
 
 module _ {d D : ℕ} {m : Name} {vs : Cell} (d0 : 0 < d) (deep : D ≤ greatest_depth d) (g : Signed d m.entries) (r : Drawn d D m vs) (f : ℕ → ℕ) where
   drawn_closed : (ns : List ℤ) → Linear (box_side d D) vs f ns → (i : ℕ) → i < d → on_axis ns (axis (entry m i)) ≡ along_entry (split_place d D) m f i
@@ -88,13 +82,6 @@ module _ {d D : ℕ} {m : Name} {vs : Cell} (d0 : 0 < d) (deep : D ≤ greatest_
 
   drawn_slope : Linear (box_side d D) vs f there.list
   drawn_slope = closed_drawn there.list there.size (λ i l. there.each (axis (entry m i) - 1) (omega (arith, g.low i l, g.high i l)) i l (omega (arith, g.low i l)))
-
--- the numbers of a cell's slope: no other list is one, and on the axis of entry i the number has the closed form
-pub record OneSlope (root path : List ℕ) (f : ℕ → ℕ) : Type 0 where
-  pub numbers : List ℤ
-  pub slope : Linear (box_side (length root) (length path)) (cell_of root path) f numbers
-  pub others : {ns : List ℤ} → Linear (box_side (length root) (length path)) (cell_of root path) f ns → ns ≡ numbers
-  pub closed : (i : ℕ) → i < length root → on_axis numbers (axis (entry (name_of root path) i)) ≡ along_entry (split_place (length root) (length path)) (name_of root path) f i
 
 pub one_slope : (root path : List ℕ) → GoodRoot root → length path ≤ greatest_depth (length root) → (f : ℕ → ℕ) → OneSlope root path f
 one_slope root path good deep f = record { numbers = (there d0 deep g r f).list; slope = h; others = λ n. drawn_one d0 deep g r f n h; closed = drawn_closed d0 deep g r f _ h }

@@ -3,9 +3,11 @@ use Rattle.std.specs.Prelude.{◌≡◌, List, ◌≢◌, ℕ, zero, suc, ◌-�
 use Rattle.std.proofs.Common.{sym, ap, ◌∙◌, arith}
 use Rattle.bisection.specs.Codes.{axis}
 use Rattle.bisection.specs.Weights.{sum_to}
-use Rattle.bisection.proofs.Theorems.Onto.{Taken, onto}
-use Rattle.bisection.proofs.Theorems.Entries.{Signed}
-use Rattle.bisection.proofs.Theorems.Crossing.Skips.{skip, skip_other, skip_in, skip_one}
+use Rattle.bisection.specs.Theorems.Onto.{Taken}
+use Rattle.bisection.proofs.Theorems.Onto.{onto}
+use Rattle.bisection.specs.Theorems.Entries.{Signed}
+use Rattle.bisection.specs.Theorems.Crossing.Skips.{skip}
+use Rattle.bisection.proofs.Theorems.Crossing.Skips.{skip_other, skip_in, skip_one}
 use Rattle.bisection.proofs.Theorems.Weights.Sums.{sum_same, sum_skip}
 
 -- p takes the numbers below d to each other, no two to the same

@@ -3,7 +3,7 @@
 -- opposite no end of the split edge, so the cell across has that edge too, in the same places, and all other vertices but i; so its
 -- child of the same number has the child's vertices but one, in the same places. Or it is the whole of facet i, opposite an end: then
 -- the new vertex stands at an end too, and the child across that lacks it has the facet whole.
-use Rattle.std.specs.Prelude.{◌≡◌, refl, cond, ◌⊎◌, ◌≢◌, ℕ, zero, suc, ◌-◌, ◌≤◌, ◌<◌, eqb, length}
+use Rattle.std.specs.Prelude.{◌≡◌, refl, ◌⊎◌, ◌≢◌, ℕ, zero, suc, ◌-◌, ◌≤◌, ◌<◌, length}
 use Rattle.std.proofs.Common.{sym, ap, ◌∙◌, inl, inr, arith, length-append}
 use Rattle.std.proofs.Math.Path.{subst}
 use mathlib.Core.List.{List, [], ◌∷◌, ◌++◌, Memᴰ}
@@ -17,14 +17,20 @@ use Rattle.bisection.specs.Weights.{LiesInside}
 use Rattle.bisection.proofs.Theorems.CodePaths.{dimension_of_code, depth_of_code, length_root, length_path_of, one_path}
 use Rattle.bisection.proofs.Theorems.CodeCells.{same_code}
 use Rattle.bisection.proofs.Theorems.CellChildren.{shorter, child_code_of, child_cell}
-use Rattle.bisection.proofs.Theorems.Drawn.{Sized, sized_child}
-use Rattle.bisection.proofs.Theorems.Crossing.Skips.{skip, skip_in, skip_other, skip_one, Skipped, skipped}
-use Rattle.bisection.proofs.Theorems.Crossing.Points.{OtherPlace, mem_facet, facet_part, same_facet}
+use Rattle.bisection.specs.Theorems.Drawn.{Sized}
+use Rattle.bisection.proofs.Theorems.Drawn.{sized_child}
+use Rattle.bisection.specs.Theorems.Crossing.Skips.{skip, Skipped}
+use Rattle.bisection.proofs.Theorems.Crossing.Skips.{skip_in, skip_other, skip_one, skipped}
+use Rattle.bisection.specs.Theorems.Crossing.Points.{OtherPlace}
+use Rattle.bisection.proofs.Theorems.Crossing.Points.{mem_facet, facet_part, same_facet}
 use Rattle.bisection.proofs.Theorems.Crossing.Coded.{coded, coded_at, range}
 use Rattle.bisection.proofs.Theorems.Neighbour.{face_alone, shares_across, across_facets, across_ends, across_kept, across_edge}
 use Rattle.bisection.proofs.Theorems.Weights.Facets.{inside_face}
-use Rattle.bisection.proofs.Theorems.Splitting.Children.{lacks, keeps, inner, sibling_lacks, child_middle, child_kept, child_size, child_facet}
-use Rattle.bisection.proofs.Theorems.Splitting.Inside.{Lies, whole, part, inside_lies}
+use Rattle.bisection.specs.Theorems.Splitting.Children.{lacks, keeps}
+use Rattle.bisection.proofs.Theorems.Splitting.Children.{inner, sibling_lacks, child_middle, child_kept, child_size, child_facet}
+use Rattle.bisection.specs.Theorems.Splitting.Inside.{Lies, whole, part}
+use Rattle.bisection.proofs.Theorems.Splitting.Inside.{inside_lies}
+use Rattle.bisection.specs.Theorems.Splitting.Agreement.{ChildAcross, number_across}
 
 -- the code of a cell's child
 module _ {code : List ℕ} {vs : Cell} (c : IsCell code vs) (b : ℕ) where
@@ -59,10 +65,6 @@ lacks_end : (b k : ℕ) → (lacks b k ≡ 0) ⊎ (lacks b k ≡ k)
 lacks_end zero k = inr refl
 lacks_end (suc b) k = inl refl
 
--- the number of the child across: kept but where the new vertex of the cell across is not at place i
-unfoldable pub number_across : ℕ → ℕ → ℕ → ℕ
-number_across i i' b = cond (eqb i' i) b (1 - b)
-
 module _ (i i' b : ℕ) where
   pub number_kept : i' ≡ i → number_across i i' b ≡ b
   unfolding number_across
@@ -78,12 +80,6 @@ module _ (i i' b : ℕ) where
       go : Dec (i' ≡ i) → number_across i i' b ≤ 1
       go (yes e) = omega (arith, number_kept e)
       go (no n) = omega (arith, number_changed n)
-
--- across facet j of the child lies child n of the cell ws, and its new vertex stands at place j too
-pub record ChildAcross (child_code : List ℕ) (j k : ℕ) (ws : Cell) (n : ℕ) : Type 0 where
-  pub child_code' : List ℕ
-  pub cell : IsCell child_code' (child n k ws)
-  pub across : Across child_code j child_code' j
 
 module _ {code : List ℕ} {vs : Cell} (c : IsCell code vs) (deep : depth_of code < greatest_depth (dimension_of code)) (b : ℕ) (small : b ≤ 1)
     {i j : ℕ} (il : i ≤ dimension_of code) (jl : j ≤ dimension_of code) (inside : LiesInside (facet j (child b (split_place (dimension_of code) (depth_of code)) vs)) (facet i vs)) where

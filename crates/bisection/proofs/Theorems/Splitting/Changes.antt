@@ -16,25 +16,19 @@ use Rattle.bisection.specs.Facets.{facet, InFace, IsCell, Across}
 use Rattle.bisection.proofs.Theorems.Axis.{closed_near, closed_far}
 use Rattle.bisection.proofs.Theorems.CodePaths.{some_axes, dimension_of_code, depth_of_code, length_root, length_path_of}
 use Rattle.bisection.proofs.Theorems.CodeCells.{same_code}
-use Rattle.bisection.proofs.Theorems.CellChildren.{cell_of_child, parent_cell, Longer, longer}
-use Rattle.bisection.proofs.Theorems.Drawn.{along}
+use Rattle.bisection.specs.Theorems.CellChildren.{Longer}
+use Rattle.bisection.proofs.Theorems.CellChildren.{cell_of_child, parent_cell, longer}
+use Rattle.bisection.specs.Theorems.Drawn.{along}
 use Rattle.bisection.proofs.Theorems.Geometry.{root_drawn, root_reads}
-use Rattle.bisection.proofs.Theorems.Crossing.Points.{OtherPlace, mem_facet}
-use Rattle.bisection.proofs.Theorems.Neighbour.{Neighbour, none, one, neighbour, across_not_face, across_ends, across_determined}
-use Rattle.bisection.proofs.Theorems.Splitting.Children.{kept_at}
+use Rattle.bisection.specs.Theorems.Crossing.Points.{OtherPlace}
+use Rattle.bisection.proofs.Theorems.Crossing.Points.{mem_facet}
+use Rattle.bisection.specs.Theorems.Neighbour.{Neighbour, none, one}
+use Rattle.bisection.proofs.Theorems.Neighbour.{neighbour, across_not_face, across_ends, across_determined}
+use Rattle.bisection.specs.Theorems.Splitting.Children.{kept_at}
 use Rattle.bisection.proofs.Theorems.Splitting.Agreement.{code_of_child, child_dimension, child_is_cell, agree_alone, agree_across}
-use Rattle.bisection.proofs.Theorems.Splitting.Siblings.{OneHolder, one_holder, sibling_across}
-
--- the two children of one cell
-pub record TwoChildren (code code' : List ℕ) : Type 0 where
-  pub parent : List ℕ
-  pub ps : Cell
-  pub cell : IsCell parent ps
-  pub below : depth_of parent < greatest_depth (dimension_of parent)
-  pub number : ℕ
-  pub small : number ≤ 1
-  pub one_child : IsCell code (child number (split_place (dimension_of parent) (depth_of parent)) ps)
-  pub other_child : IsCell code' (child (1 - number) (split_place (dimension_of parent) (depth_of parent)) ps)
+use Rattle.bisection.specs.Theorems.Splitting.Siblings.{OneHolder}
+use Rattle.bisection.proofs.Theorems.Splitting.Siblings.{one_holder, sibling_across}
+use Rattle.bisection.specs.Theorems.Splitting.Changes.{TwoChildren}
 
 -- the facets of a root opposite its first and its last vertex lie in faces of the cube
 module _ (root : List ℕ) (good : GoodRoot root) where

@@ -5,24 +5,14 @@ use Rattle.std.proofs.Common.{◌∙◌, arith, get_or-set_same, get_or-set_othe
 use Rattle.std.proofs.Math.Decide.{dec_lt}
 use Rattle.bisection.specs.Cells.{Cell, vertex, child}
 use Rattle.bisection.specs.Facets.{facet}
-use Rattle.bisection.proofs.Theorems.Lists.{middle, child_set, child_shifted, shifted, shifted_before, shifted_at, shifted_past}
-use Rattle.bisection.proofs.Theorems.Drawn.{Sized, sized_child}
-use Rattle.bisection.proofs.Theorems.Crossing.Skips.{skip, skip_before, skip_past, skip_other}
+use Rattle.bisection.specs.Theorems.Lists.{middle, shifted}
+use Rattle.bisection.proofs.Theorems.Lists.{child_set, child_shifted, shifted_before, shifted_at, shifted_past}
+use Rattle.bisection.specs.Theorems.Drawn.{Sized}
+use Rattle.bisection.proofs.Theorems.Drawn.{sized_child}
+use Rattle.bisection.specs.Theorems.Crossing.Skips.{skip}
+use Rattle.bisection.proofs.Theorems.Crossing.Skips.{skip_before, skip_past, skip_other}
 use Rattle.bisection.proofs.Theorems.Crossing.Points.{same_facet}
-
--- the place in the cell of the end that child b lacks, and of the end that it keeps
-abbrev pub lacks : ℕ → ℕ → ℕ
-lacks zero k = k
-lacks (suc b) k = 0
-
-abbrev pub keeps : ℕ → ℕ → ℕ
-keeps zero k = 0
-keeps (suc b) k = k
-
--- the place in the child of the end that it keeps: the facet opposite is the one that the two children share
-abbrev pub kept_at : ℕ → ℕ → ℕ
-kept_at zero k = 0
-kept_at (suc b) k = k - 1
+use Rattle.bisection.specs.Theorems.Splitting.Children.{keeps, kept_at, lacks}
 
 -- what is neither end
 pub inner : (b : ℕ) {k i : ℕ} → i ≢ lacks b k → i ≢ keeps b k → (i ≢ 0) × (i ≢ k)

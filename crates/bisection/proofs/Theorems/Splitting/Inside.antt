@@ -9,21 +9,23 @@ use Rattle.dimension.specs.Sizes.{greatest_depth, split_place}
 use Rattle.bisection.specs.Cells.{Point, Cell, vertex, child}
 use Rattle.bisection.specs.Facets.{facet}
 use Rattle.bisection.specs.Weights.{Inside, LiesInside}
-use Rattle.bisection.proofs.Theorems.Lists.{middle}
-use Rattle.bisection.proofs.Theorems.Drawn.{Sized, along, middle_length, middle_at}
+use Rattle.bisection.specs.Theorems.Lists.{middle}
+use Rattle.bisection.specs.Theorems.Drawn.{Sized, along}
+use Rattle.bisection.proofs.Theorems.Drawn.{middle_length, middle_at}
 use Rattle.bisection.proofs.Theorems.Geometry.{split_even}
-use Rattle.bisection.proofs.Theorems.Crossing.Skips.{skip, skip_in, skip_other, skip_one, Skipped, skipped}
-use Rattle.bisection.proofs.Theorems.Crossing.Points.{OtherPlace, mem_facet, facet_mem}
-use Rattle.bisection.proofs.Theorems.Crossing.Coded.{Coded, some, range}
-use Rattle.bisection.proofs.Theorems.Weights.Sums.{only, only_at, only_other}
-use Rattle.bisection.proofs.Theorems.Weights.Axes.{Axes}
+use Rattle.bisection.specs.Theorems.Crossing.Skips.{skip, Skipped}
+use Rattle.bisection.proofs.Theorems.Crossing.Skips.{skip_in, skip_other, skip_one, skipped}
+use Rattle.bisection.specs.Theorems.Crossing.Points.{OtherPlace}
+use Rattle.bisection.proofs.Theorems.Crossing.Points.{mem_facet, facet_mem}
+use Rattle.bisection.specs.Theorems.Crossing.Coded.{Coded}
+use Rattle.bisection.proofs.Theorems.Crossing.Coded.{some, range}
+use Rattle.bisection.specs.Theorems.Weights.Sums.{only}
+use Rattle.bisection.proofs.Theorems.Weights.Sums.{only_at, only_other}
+use Rattle.bisection.specs.Theorems.Weights.Axes.{Axes}
 use Rattle.bisection.proofs.Theorems.Weights.Facets.{weightless_inside, inside_weightless, vertex_axes, halfway_axes}
-use Rattle.bisection.proofs.Theorems.Splitting.Children.{lacks, keeps, kept_at, inner, no_end, kept_place, kept_end, child_middle, child_kept, child_size, lacks_in}
-
--- facet j of child b lies inside facet i, by places: the whole of it, or a part
-pub data Lies (d b k i j : ℕ) : Type 0 where
-  whole : j ≡ k → i ≡ lacks b k → Lies d b k i j
-  part : (t : ℕ) → t < d → j ≡ skip k t → i ≡ skip (lacks b k) t → i ≢ keeps b k → Lies d b k i j
+use Rattle.bisection.specs.Theorems.Splitting.Children.{lacks, keeps, kept_at}
+use Rattle.bisection.proofs.Theorems.Splitting.Children.{inner, no_end, kept_place, kept_end, child_middle, child_kept, child_size, lacks_in}
+use Rattle.bisection.specs.Theorems.Splitting.Inside.{Holder, Lies, part, whole}
 
 -- inside one facet at most, and not where the facet is opposite the end that is kept
 pub lies_one : {d b k i i' j : ℕ} → Lies d b k i j → Lies d b k i' j → i ≡ i'
@@ -35,12 +37,6 @@ lies_one {b = b} {k = k} (part t l p q n) (part t' l' p' q' n') = q ∙ ap (skip
 pub lies_not_kept : {d b k i j : ℕ} → 1 ≤ k → Lies d b k i j → j ≢ kept_at b k
 lies_not_kept {b = b} {k = k} k1 (whole e q) r = skip_other k (kept_at b k) (kept_place k k1 b ∙ sym r ∙ e)
 lies_not_kept {b = b} {k = k} k1 (part t l p q n) r = n (q ∙ ap (skip (lacks b k)) (skip_one k t (kept_at b k) (sym p ∙ r ∙ sym (kept_place k k1 b))) ∙ kept_end k k1 b)
-
--- any other facet lies inside one
-pub record Holder (d b k j : ℕ) : Type 0 where
-  pub i : ℕ
-  pub within : i ≤ d
-  pub lies : Lies d b k i j
 
 pub holder : {d : ℕ} (b k j : ℕ) → 1 ≤ k → k ≤ d → j ≤ d → j ≢ kept_at b k → lacks b k ≤ d → Holder d b k j
 holder {d} b k j k1 kd jl n e = go (ℕ_discrete j k)

@@ -11,17 +11,24 @@ use Rattle.dimension.specs.Sizes.{greatest_depth, split_place, box_side}
 use Rattle.bisection.specs.Cells.{Point, Cell, vertex, child}
 use Rattle.bisection.specs.Codes.{dimension_of, depth_of, parts_of}
 use Rattle.bisection.specs.Facets.{IsCell}
-use Rattle.bisection.proofs.Theorems.Lists.{middle}
-use Rattle.bisection.proofs.Theorems.Drawn.{Sized, middle_at}
+use Rattle.bisection.specs.Theorems.Lists.{middle}
+use Rattle.bisection.specs.Theorems.Drawn.{Sized}
+use Rattle.bisection.proofs.Theorems.Drawn.{middle_at}
 use Rattle.bisection.proofs.Theorems.Geometry.{split_even}
-use Rattle.bisection.proofs.Theorems.Crossing.Sums.{sum, sum_same, up_to, count}
-use Rattle.bisection.proofs.Theorems.Crossing.Rows.{row, row_before, row_in, Sides, sides_odd}
-use Rattle.bisection.proofs.Theorems.Crossing.Frames.{Frame, vert, GoodFrame, Meets, half_high, half_low_is, meet_high, meet_low}
-use Rattle.bisection.proofs.Theorems.Crossing.Skips.{skip, skip_in, Skipped, skipped}
+use Rattle.bisection.specs.Theorems.Crossing.Sums.{sum, up_to}
+use Rattle.bisection.proofs.Theorems.Crossing.Sums.{sum_same, count}
+use Rattle.bisection.specs.Theorems.Crossing.Rows.{row, Sides}
+use Rattle.bisection.proofs.Theorems.Crossing.Rows.{row_before, row_in, sides_odd}
+use Rattle.bisection.specs.Theorems.Crossing.Frames.{Frame, vert, GoodFrame, Meets}
+use Rattle.bisection.proofs.Theorems.Crossing.Frames.{half_high, half_low_is, meet_high, meet_low}
+use Rattle.bisection.specs.Theorems.Crossing.Skips.{skip, Skipped}
+use Rattle.bisection.proofs.Theorems.Crossing.Skips.{skip_in, skipped}
 use Rattle.bisection.proofs.Theorems.Crossing.Points.{Found, mem_place, place_mem, same_meets}
-use Rattle.bisection.proofs.Theorems.Crossing.Named.{frame}
-use Rattle.bisection.proofs.Theorems.Crossing.Coded.{Coded, coded, coded_at, some, range, side, good_of, scaled_of}
-use Rattle.bisection.proofs.Theorems.Splitting.Children.{lacks, child_kept, child_size, lacks_in}
+use Rattle.bisection.specs.Theorems.Crossing.Named.{frame}
+use Rattle.bisection.specs.Theorems.Crossing.Coded.{Coded}
+use Rattle.bisection.proofs.Theorems.Crossing.Coded.{coded, coded_at, some, range, side, good_of, scaled_of}
+use Rattle.bisection.specs.Theorems.Splitting.Children.{lacks}
+use Rattle.bisection.proofs.Theorems.Splitting.Children.{child_kept, child_size, lacks_in}
 use Rattle.bisection.proofs.Theorems.Splitting.Agreement.{child_dimension, child_depth, child_is_cell}
 
 -- no two vertices of a cell are one point

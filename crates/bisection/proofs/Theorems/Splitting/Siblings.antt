@@ -13,21 +13,19 @@ use Rattle.bisection.specs.Facets.{facet, HasAll, IsCell, Across}
 use Rattle.bisection.specs.Weights.{LiesInside}
 use Rattle.bisection.proofs.Theorems.CodePaths.{one_path}
 use Rattle.bisection.proofs.Theorems.CodeCells.{same_code}
-use Rattle.bisection.proofs.Theorems.Drawn.{Sized}
-use Rattle.bisection.proofs.Theorems.Crossing.Skips.{skip, skip_in, skip_one, Skipped, skipped}
-use Rattle.bisection.proofs.Theorems.Crossing.Points.{place_mem, OtherPlace, mem_facet}
+use Rattle.bisection.specs.Theorems.Drawn.{Sized}
+use Rattle.bisection.specs.Theorems.Crossing.Skips.{skip, Skipped}
+use Rattle.bisection.proofs.Theorems.Crossing.Skips.{skip_in, skip_one, skipped}
+use Rattle.bisection.specs.Theorems.Crossing.Points.{OtherPlace}
+use Rattle.bisection.proofs.Theorems.Crossing.Points.{place_mem, mem_facet}
 use Rattle.bisection.proofs.Theorems.Crossing.Coded.{coded, range}
 use Rattle.bisection.proofs.Theorems.Neighbour.{shares_across}
-use Rattle.bisection.proofs.Theorems.Splitting.Children.{lacks, keeps, kept_at, kept_in, kept_place, kept_end, sibling_lacks, sibling_keeps, child_middle, child_kept, child_size, lacks_in}
-use Rattle.bisection.proofs.Theorems.Splitting.Inside.{Holder, holder, lies_one, lies_not_kept, inside_lies, lies_inside}
+use Rattle.bisection.specs.Theorems.Splitting.Children.{lacks, keeps, kept_at}
+use Rattle.bisection.proofs.Theorems.Splitting.Children.{kept_in, kept_place, kept_end, sibling_lacks, sibling_keeps, child_middle, child_kept, child_size, lacks_in}
+use Rattle.bisection.specs.Theorems.Splitting.Inside.{Holder}
+use Rattle.bisection.proofs.Theorems.Splitting.Inside.{holder, lies_one, lies_not_kept, inside_lies, lies_inside}
 use Rattle.bisection.proofs.Theorems.Splitting.Agreement.{code_of_child, child_dimension, child_depth, child_is_code, child_is_cell}
-
--- one facet of the cell, and no other, has facet j of the child inside
-pub record OneHolder (d : ℕ) (vs us : Cell) (j : ℕ) : Type 0 where
-  pub i : ℕ
-  pub within : i ≤ d
-  pub inside : LiesInside (facet j us) (facet i vs)
-  pub only : (i' : ℕ) → i' ≤ d → LiesInside (facet j us) (facet i' vs) → i' ≡ i
+use Rattle.bisection.specs.Theorems.Splitting.Siblings.{OneHolder}
 
 module _ {code : List ℕ} {vs : Cell} (c : IsCell code vs) (deep : depth_of code < greatest_depth (dimension_of code)) (b : ℕ) (small : b ≤ 1) where
   abbrev d : ℕ

@@ -1,22 +1,14 @@
 -- Weights as a function of the place, one axis at a time: what proofs use for the list of a reader.
-use Rattle.std.specs.Prelude.{◌≡◌, refl, List, [], ◌∷◌, ℕ, zero, suc, ◌*◌, ◌≤◌, ◌<◌, length, get_or}
+use Rattle.std.specs.Prelude.{◌≡◌, refl, List, ℕ, zero, suc, ◌*◌, ◌≤◌, ◌<◌, length, get_or}
 use Rattle.std.proofs.Math.Path.{sym}
 use Rattle.std.proofs.Common.{ap, ◌∙◌, arith}
 use Rattle.std.proofs.Math.Decide.{dec_lt}
 use Rattle.std.proofs.Math.ListN.{get_or-eq_default}
-use Rattle.bisection.specs.Cells.{Point, Cell, coordinate}
-use Rattle.bisection.specs.Weights.{sum_to, total, weighted, Weighs, Inside}
-use Rattle.bisection.proofs.Theorems.Drawn.{Sized, along}
+use Rattle.bisection.specs.Cells.{Point, Cell}
+use Rattle.bisection.specs.Weights.{total, weighted, Weighs, Inside}
+use Rattle.bisection.specs.Theorems.Drawn.{Sized, along}
 use Rattle.bisection.proofs.Theorems.Weights.Sums.{sum_same, term_most}
-
--- the weighted sum of what stands at the places up to d
-abbrev pub mean : ℕ → (ℕ → ℕ) → (ℕ → ℕ) → ℕ
-mean d w r = sum_to (suc d) (λ j. w j * r j)
-
--- weights of sum W, whose mean on each axis is W times the point's coordinate; y a j is vertex j on axis a
-pub record Axes (d : ℕ) (y : ℕ → ℕ → ℕ) (p : Point) (W : ℕ) (w : ℕ → ℕ) : Type 0 where
-  pub sum : sum_to (suc d) w ≡ W
-  pub means : (a : ℕ) → 1 ≤ a → a ≤ d → mean d w (y a) ≡ W * coordinate p a
+use Rattle.bisection.specs.Theorems.Weights.Axes.{Axes, list_of, mean}
 
 pub mean_same : (d : ℕ) (w r r' : ℕ → ℕ) → ((j : ℕ) → r j ≡ r' j) → mean d w r ≡ mean d w r'
 mean_same d w r r' e = sum_same (suc d) (λ j. w j * r j) (λ j. w j * r' j) (λ j l. ap (λ (x : ℕ). w j * x) (e j))
@@ -27,11 +19,6 @@ axes_same {d} {y} w u e h = record {
   sum = sym (sum_same (suc d) w u (λ j l. e j (omega arith))) ∙ h.sum;
   means = λ a l m. sym (sum_same (suc d) (λ j. w j * y a j) (λ j. u j * y a j) (λ j l. ap (λ (x : ℕ). x * y a j) (e j (omega arith)))) ∙ h.means a l m;
 }
-
--- a function as the list of its values
-unfoldable pub list_of : ℕ → (ℕ → ℕ) → List ℕ
-list_of zero f = []
-list_of (suc n) f = f 0 ∷ list_of n (λ j. f (suc j))
 
 pub list_length : (n : ℕ) (f : ℕ → ℕ) → length (list_of n f) ≡ n
 unfolding list_of

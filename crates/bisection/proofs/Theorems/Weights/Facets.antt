@@ -13,12 +13,15 @@ use Rattle.bisection.specs.Cells.{Point, Cell, coordinate, vertex}
 use Rattle.bisection.specs.Codes.{Name}
 use Rattle.bisection.specs.Facets.{facet, InFace}
 use Rattle.bisection.specs.Weights.{sum_to, total, weighted, Weighs, Inside, LiesInside}
-use Rattle.bisection.proofs.Theorems.Entries.{Signed}
-use Rattle.bisection.proofs.Theorems.Drawn.{Sized, Drawn, along}
-use Rattle.bisection.proofs.Theorems.Crossing.Skips.{skip, skip_before, skip_past, skip_other}
+use Rattle.bisection.specs.Theorems.Entries.{Signed}
+use Rattle.bisection.specs.Theorems.Drawn.{Sized, Drawn, along}
+use Rattle.bisection.specs.Theorems.Crossing.Skips.{skip}
+use Rattle.bisection.proofs.Theorems.Crossing.Skips.{skip_before, skip_past, skip_other}
 use Rattle.bisection.proofs.Theorems.Crossing.Points.{facet_at, facet_length, place_mem}
-use Rattle.bisection.proofs.Theorems.Weights.Sums.{sum_same, sum_add, sum_scale, sum_skip, only, sum_only, mean_only}
-use Rattle.bisection.proofs.Theorems.Weights.Axes.{mean, Axes, list_of, list_length, list_at}
+use Rattle.bisection.specs.Theorems.Weights.Sums.{only}
+use Rattle.bisection.proofs.Theorems.Weights.Sums.{sum_same, sum_add, sum_scale, sum_skip, sum_only, mean_only}
+use Rattle.bisection.specs.Theorems.Weights.Axes.{mean, Axes, list_of}
+use Rattle.bisection.proofs.Theorems.Weights.Axes.{list_length, list_at}
 use Rattle.bisection.proofs.Theorems.Weights.Independent.{axes_scaled}
 
 -- weights in a facet as weights in the cell

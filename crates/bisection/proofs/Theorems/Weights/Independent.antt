@@ -12,12 +12,13 @@ use Rattle.dimension.specs.Laws.{split_range, side_of}
 use Rattle.bisection.specs.Cells.{Point, Cell}
 use Rattle.bisection.specs.Codes.{axis, minus, Name}
 use Rattle.bisection.specs.Weights.{sum_to}
-use Rattle.bisection.proofs.Theorems.Entries.{Signed}
-use Rattle.bisection.proofs.Theorems.Drawn.{Drawn, along, entry}
-use Rattle.bisection.proofs.Theorems.Geometry.{Moves}
+use Rattle.bisection.specs.Theorems.Entries.{Signed}
+use Rattle.bisection.specs.Theorems.Drawn.{Drawn, along, entry}
+use Rattle.bisection.specs.Theorems.Geometry.{Moves}
 use Rattle.bisection.proofs.Theorems.Weights.Sums.{sum_same, sum_scale}
-use Rattle.bisection.proofs.Theorems.Weights.Axes.{mean, Axes}
-use Rattle.bisection.proofs.Theorems.Weights.Offsets.{top, offset, offset_mean, mean_along}
+use Rattle.bisection.specs.Theorems.Weights.Axes.{mean, Axes}
+use Rattle.bisection.specs.Theorems.Weights.Offsets.{top}
+use Rattle.bisection.proofs.Theorems.Weights.Offsets.{offset, offset_mean, mean_along}
 
 -- what lies between the same two numbers is the same
 same_move : (m : Bool) (x y : ℕ) {s s' : ℕ} → Moves m s x y → Moves m s' x y → s ≡ s'

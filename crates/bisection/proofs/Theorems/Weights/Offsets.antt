@@ -1,7 +1,7 @@
 -- A cell's vertices along one entry, weighed. Along entry i, vertex 0 and the vertices up to i are at the box's near side, those up to
 -- k at its far side, those past both at its middle. So with B n the sum of the first n weights and h the larger of i and k, twice the
 -- mean of the ways from the near side and 2 s B (i + 1) make s B (d + 1) + s B (h + 1).
-use Rattle.std.specs.Prelude.{◌≡◌, Bool, true, false, cond, not, ℕ, zero, suc, ◌+◌, ◌-◌, ◌*◌, ◌/◌, ◌%◌, ◌≤◌, ◌<◌, leb}
+use Rattle.std.specs.Prelude.{◌≡◌, Bool, true, false, cond, not, ℕ, zero, suc, ◌+◌, ◌*◌, ◌/◌, ◌%◌, ◌≤◌, ◌<◌, leb}
 use Rattle.std.proofs.Common.{sym, ap, ◌∙◌, arith}
 use Rattle.std.proofs.Math.Decide.{dec_le}
 use borrow.Author.Tests.{le-leb, lt-leb}
@@ -10,15 +10,13 @@ use Rattle.dimension.specs.Laws.{side_of}
 use Rattle.bisection.specs.Cells.{Cell}
 use Rattle.bisection.specs.Codes.{axis, minus, Name}
 use Rattle.bisection.specs.Weights.{sum_to}
-use Rattle.bisection.proofs.Theorems.Axis.{closed, closed_near, near}
-use Rattle.bisection.proofs.Theorems.Drawn.{Drawn, box_low, along, entry}
-use Rattle.bisection.proofs.Theorems.Geometry.{Moves}
+use Rattle.bisection.specs.Theorems.Axis.{closed, near}
+use Rattle.bisection.proofs.Theorems.Axis.{closed_near}
+use Rattle.bisection.specs.Theorems.Drawn.{Drawn, box_low, along, entry}
+use Rattle.bisection.specs.Theorems.Geometry.{Moves}
 use Rattle.bisection.proofs.Theorems.Weights.Sums.{sum_same, sum_add, sum_scale, mean_past}
-use Rattle.bisection.proofs.Theorems.Weights.Axes.{mean}
-
--- the larger of two places
-abbrev pub top : ℕ → ℕ → ℕ
-top i k = i + (k - i)
+use Rattle.bisection.specs.Theorems.Weights.Axes.{mean}
+use Rattle.bisection.specs.Theorems.Weights.Offsets.{top}
 
 -- how far vertex j lies from the near side along entry i
 pub offset : ℕ → ℕ → ℕ → ℕ → ℕ

@@ -1,10 +1,12 @@
 -- Sums: of equal terms, of multiples, of terms at one place, of terms past one place, of all terms but one.
-use Rattle.std.specs.Prelude.{◌≡◌, refl, cond, ℕ, zero, suc, ◌+◌, ◌*◌, ◌≤◌, ◌<◌, eqb}
+use Rattle.std.specs.Prelude.{◌≡◌, refl, ℕ, zero, suc, ◌+◌, ◌*◌, ◌≤◌, ◌<◌}
 use Rattle.std.proofs.Common.{sym, ap, ◌∙◌, arith}
 use Rattle.std.proofs.Math.Decide.{ℕ_discrete}
 use borrow.Author.Tests.{eq-eqb, ne_eqb}
 use Rattle.bisection.specs.Weights.{sum_to}
-use Rattle.bisection.proofs.Theorems.Crossing.Skips.{skip, skip_before, skip_past}
+use Rattle.bisection.specs.Theorems.Crossing.Skips.{skip}
+use Rattle.bisection.proofs.Theorems.Crossing.Skips.{skip_before, skip_past}
+use Rattle.bisection.specs.Theorems.Weights.Sums.{only}
 
 pub sum_same : (n : ℕ) (f g : ℕ → ℕ) → ((j : ℕ) → j < n → f j ≡ g j) → sum_to n f ≡ sum_to n g
 unfolding sum_to
@@ -34,10 +36,6 @@ sum_rises f m (suc n) l = go (ℕ_discrete m (suc n)) (sum_rises f m n)
 pub term_most : (f : ℕ → ℕ) (n j : ℕ) → j < n → f j ≤ sum_to n f
 unfolding sum_to
 term_most f n j l = omega (arith, sum_rises f (suc j) n l)
-
--- c at place i, nothing elsewhere
-unfoldable pub only : ℕ → ℕ → ℕ → ℕ
-only i c j = cond (eqb j i) c 0
 
 module _ (i c j : ℕ) where
   pub only_at : j ≡ i → only i c j ≡ c

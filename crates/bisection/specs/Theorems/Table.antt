@@ -6,7 +6,7 @@ use Rattle.std.specs.Prelude.{Bool, true, false, cond, not, ◌&&◌, List, [], 
 use Rattle.dimension.specs.Sizes.{split_place}
 use Rattle.bisection.specs.Codes.{axis, minus, negated, turned, high, Name}
 use Rattle.bisection.specs.Refusals.{own_minus, same_sign}
-use Rattle.bisection.proofs.Theorems.Entries.{unturned}
+use Rattle.bisection.specs.Theorems.Entries.{unturned}
 
 -- the rows: entries i and i + 1 change places; entry d is negated and the box moves on to its near side; entry 1 is
 -- negated and the box moves on to its far side; the first k + 1 entries turn left; they turn right; entries 1 and

@@ -1,0 +1,20 @@
+-- Definitions that the theorems of the same modules in proofs/ speak of, and what contracts cite of them.
+pub mod Ladders
+pub mod Lists
+pub mod Axis
+pub mod Onto
+pub mod Entries
+pub mod Passing
+pub mod Paths
+pub mod Checked
+pub mod CodePaths
+pub mod Drawn
+pub mod Geometry
+pub mod OneCode
+pub mod CellChildren
+pub mod Table
+pub mod Crossing
+pub mod Neighbour
+pub mod Weights
+pub mod Slopes
+pub mod Splitting

@@ -1,0 +1,23 @@
+-- Definitions that the theorems of the same modules in proofs/ speak of, and what contracts cite of them.
+pub mod Sums
+pub mod Rows
+pub mod Frames
+pub mod Shift
+pub mod Axes
+pub mod Moves
+pub mod Level
+pub mod Turning
+pub mod Walls
+pub mod Sound
+pub mod Places
+pub mod Across
+pub mod Skips
+pub mod Shared
+pub mod Flips
+pub mod Boxes
+pub mod Stops
+pub mod Points
+pub mod Named
+pub mod Rearranged
+pub mod Carries
+pub mod Coded
