@@ -1,11 +1,10 @@
 -- `smaller` meets its contract. The loop keeps: n counts the smaller entries before place j.
 use mathlib.Core.Path.{sym, ap, ◌∙◌}
-use Prim.Native.Nat.{ℕ, ◌+◌}
+use Prim.Native.Nat.{◌+◌}
 use native.Mathlib.Omega.{arith}
 use native.Mathlib.Numerals.{add-one}
 use Rattle.positions.specs.RootNumbers.{smaller_in, smaller_none, smaller_more, smaller_same, smaller_few}
 use Rattle.positions.proofs.smaller.Goals as goal
-use Rattle.positions.proofs.smaller.Goals.{then-root-j, else-root-j}
 
 pub loop-j-init : goal.loop-j-init
 loop-j-init c = (omega arith, omega arith, sym (smaller_none c.args.root.now c.args.i (c.args.i + 1) (omega arith)))
@@ -17,10 +16,7 @@ pub loop-j-preserved : goal.loop-j-preserved
 loop-j-preserved c = let counted = c.loop-j.invariant.2 in (
   omega arith,
   omega arith,
-  rw add-one (elim c.if-root-j.branch [
-    | then-root-j w ↦ w.n-is ∙ ap (λ (k : ℕ). k + 1) counted ∙ sym (smaller_more _ _ _ c.loop-j.invariant.0 w.if-root-j.true)
-    | else-root-j w ↦ w.n-is ∙ counted ∙ sym (smaller_same _ _ _ c.loop-j.invariant.0 w.if-root-j.false)
-  ]),
+  rw add-one (grind (arith, smaller_more, smaller_same, counted)),
 )
 
 pub returns : goal.returns
