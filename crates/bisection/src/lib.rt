@@ -1,5 +1,5 @@
-// Document 01 as definitions, and the theorems about them: all of it stands in specs/. The refusal
-// numbers are the only code: the same numbers stand in specs/Refusals.antt for the contracts.
+// Document 01 as definitions, in specs/, and the theorems about them, in proofs/. The refusal numbers
+// are the only code: the same numbers stand in specs/Refusals.antt for the contracts.
 #![tactic(auto)]
 
 pub const DONE: u8 = 0;

@@ -1,5 +1,5 @@
 -- A crossing's answer as one number: a refusal, or the place of the new vertex and 16 more, or 32 more where the crossing leaves its box.
--- What it says, and one law for each way out.
+-- One law for each way out.
 use Rattle.std.specs.Prelude.{◌≡◌, refl, true, false, List, ◌++◌, ℕ, ◌%◌, ◌≤◌, ◌<◌, length, take, drop}
 use Rattle.std.proofs.Common.{sym, ap, ◌∙◌, subst, arith, length-append, length-drop, length-take-le}
 use Rattle.bisection.specs.Codes.{dimension_of, orthants_of}

@@ -1,4 +1,4 @@
--- The ways out of a crossing, each with what is known there; and a change of a name's entries where more bytes follow them.
+-- What the ways out of a crossing answer: a refusal and nothing else, or the whole answer.
 use Rattle.std.specs.Prelude.{◌≡◌, ℕ, take}
 use mathlib.Core.List.{List}
 use Rattle.bisection.specs.Refusals.{done}

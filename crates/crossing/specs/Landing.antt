@@ -1,5 +1,5 @@
 -- A crossing's answer as one number: a refusal, or the place of the new vertex and 16 more, or 32 more where the crossing leaves its box.
--- What it says, and one law for each way out.
+-- What it says.
 use Rattle.std.specs.Prelude.{◌≡◌, List, ℕ, ◌%◌, ◌≤◌, ◌<◌, length, take}
 use Rattle.bisection.specs.Codes.{dimension_of, orthants_of}
 use Rattle.bisection.specs.Refusals.{done, code_refusal}

@@ -8,7 +8,7 @@ use Rattle.bisection.specs.Codes.{dimension_of, depth_of}
 use Rattle.bisection.specs.Facets.{facet, InFace, IsCell, Shares, Across}
 use Rattle.bisection.specs.Weights.{LiesInside}
 
--- us is child b of the cell vs, whose depth is less than the greatest; code and child-code name the two
+-- us is child b of the cell vs, whose depth is less than the greatest; code and child_code name the two
 pub record Split (code : List ℕ) (vs : Cell) (b : ℕ) (child_code : List ℕ) (us : Cell) : Type 0 where
   pub cell : IsCell code vs
   pub below : depth_of code < greatest_depth (dimension_of code)

@@ -20,20 +20,14 @@ const UNWRITTEN: &str = "sheet_list: the output could not be written whole\n";
 /// What is written where nothing can be read.
 const NOTHING_READ: &str = "refused 14 at 0\n";
 
-/// How a line begins that the emulator says of a signal.
-const EMULATOR: &str = "qemu: ";
-
 /// More than a pipe holds, so that a writer waits for the reader.
 const PIPE: usize = 65_536;
 
 const SIGSEGV: i32 = 11;
 const SIGXFSZ: i32 = 25;
 
-/// A stack of so many KiB for the program alone: the emulator has a setting of its own.
-#[cfg(target_arch = "x86_64")]
+/// A stack of so many KiB for the program alone.
 const STACK: &str = "ulimit -s KIB; exec";
-#[cfg(not(target_arch = "x86_64"))]
-const STACK: &str = "exec env QEMU_STACK_SIZE=$((1024 * KIB))";
 
 /// What arrives of the output.
 enum Arrives<'a> {
@@ -79,7 +73,6 @@ impl Faults {
         drop(reader);
         let mut said = String::new();
         child.stderr.take().expect("a pipe").read_to_string(&mut said).expect("what it says is text");
-        let said: String = said.split_inclusive('\n').filter(|line| !line.starts_with(EMULATOR)).collect();
         let end = end_of(child.wait().expect("it ends"));
         given.extend(fs::read(OUTPUT).unwrap_or_default());
         let given = String::from_utf8(given).expect("its output is text");
