@@ -8,6 +8,9 @@ pub mod Roots
 pub mod Codes
 -- The refusal numbers, and the order of refusals for a code.
 pub mod Refusals
+-- The refusals as the code has them, by their numbers.
+pub mod Numbers
+pub mod NumberLaws
 -- Facets, faces of the cube, cells that have all of a facet's vertices, and the cell across a facet.
 pub mod Facets
 -- A point in a closed cell, and its weights; points inside points.

@@ -39,6 +39,18 @@ refused_deepest = 10
 abbrev pub refused_short : ℕ
 refused_short = 11
 
+abbrev pub refused_point : ℕ
+refused_point = 12
+
+abbrev pub refused_record : ℕ
+refused_record = 13
+
+abbrev pub refused_leaf : ℕ
+refused_leaf = 14
+
+abbrev pub refused_large : ℕ
+refused_large = 15
+
 -- a test with the number that is given where it fails; or the refusal that a part has of its own
 pub data Test : Type 0 where
   need : Bool → ℕ → Test

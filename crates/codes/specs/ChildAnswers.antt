@@ -1,12 +1,16 @@
 -- The child: one law for each way out of the code, and that it is the code of the path with one step more.
-use Rattle.std.specs.Prelude.{◌≡◌, refl, List, ◌++◌, ◌≢◌, ℕ, suc, ◌+◌, ◌≤◌, ◌<◌, length}
+use Rattle.std.specs.Prelude.{◌≡◌, refl, List, ◌++◌, ℕ, Ok, Err, suc, ◌+◌, ◌≤◌, ◌<◌, length}
 use Rattle.std.proofs.Common.{sym, ◌∙◌, arith, add-one, length-append, le-leb, lt-ltb, le-ltb}
 use Rattle.std.proofs.Math.Path.{ap}
 use Rattle.std.proofs.Math.ListN.{drop}
 use Rattle.std.proofs.lemmas.Bool.{lt-leb}
 use Rattle.dimension.specs.Sizes.{greatest_depth, code_length}
 use Rattle.bisection.specs.Codes.{step, bytes, dimension_of, depth_of, parts_of}
-use Rattle.bisection.specs.Refusals.{done, refused_step, refused_deepest, refused_short, code_refusal}
+use Rattle.bisection.specs.Refusals.{done, code_refusal}
+use Rattle.bisection.specs.declared.Refusal.{Refusal}
+use Rattle.bisection.specs.declared.Refusal.TheVariants.{Step, Deepest, Short}
+use Rattle.bisection.specs.Numbers.{number_of}
+use Rattle.bisection.specs.NumberLaws.{refuses}
 use Rattle.bisection.specs.Theorems.Ladders.{all_hold, holds, fails, past, stops}
 use Rattle.bisection.proofs.Theorems.Ladders.{first_is}
 use Rattle.bisection.specs.Theorems.Passing.{Passes}
@@ -14,8 +18,7 @@ use Rattle.bisection.proofs.Theorems.Passing.{step_passes}
 use Rattle.bisection.specs.Theorems.CodePaths.{child_code, root_of, path_of}
 use Rattle.bisection.proofs.Theorems.CodePaths.{code_path, child_code_is}
 use Rattle.entries.specs.Passed.{Checked, checked}
-use Rattle.steps.specs.Relatives.{ChildReady}
-use Rattle.codes.specs.declared.Written.{Written}
+use Rattle.codes.specs.Forms.{written}
 use Rattle.codes.specs.Outcomes.{Child, ChildOf, child_refusal}
 use Rattle.codes.specs.Writing.{refused_answers, done_answers}
 
@@ -38,27 +41,27 @@ child_of code which e =
 
 -- the ways out, in document 01's order
 module _ (code : List ℕ) (which : ℕ) (before : List ℕ) where
-  pub child_own : {x : ℕ} {r : Written} → x ≡ code_refusal code → x ≢ done → (r.refusal ≡ x) × (r.length ≡ 0) → Child code which before r before
+  pub child_own : (x : Refusal) → number_of x ≡ code_refusal code → Child code which before (written (Err x)) before
   unfolding child_refusal
-  child_own e n f = refused_answers (first_is (stops (sym e) n)) n f
+  child_own x e = refused_answers x (first_is (stops (sym e) (refuses x)))
 
   -- as the code has the code's refusal
-  module _ {x : ℕ} (e : x ≡ code_refusal code) (z : x ≡ done) where
+  module _ (e : done ≡ code_refusal code) where
     p : code_refusal code ≡ done
-    p = sym e ∙ z
+    p = sym e
 
-    pub child_step : {r : Written} → 1 < which → (r.refusal ≡ refused_step) × (r.length ≡ 0) → Child code which before r before
+    pub child_step : 1 < which → Child code which before (written (Err Step)) before
     unfolding child_refusal
-    child_step h f = refused_answers (first_is (past p (fails (lt-leb which 1 h)))) (omega arith) f
+    child_step h = refused_answers Step (first_is (past p (fails (lt-leb which 1 h))))
 
     -- as the code has the dimension, the depth and the greatest depth; then the child's length
     module _ (w : which ≤ 1) {d D g : ℕ} (axes : d ≡ dimension_of code) (depth : D ≡ depth_of code) (greatest : g ≡ greatest_depth d) where
       limit : greatest_depth (dimension_of code) ≡ g
       limit = rw (← axes, greatest) refl
 
-      pub child_deepest : {r : Written} → g ≤ D → (r.refusal ≡ refused_deepest) × (r.length ≡ 0) → Child code which before r before
+      pub child_deepest : g ≤ D → Child code which before (written (Err Deepest)) before
       unfolding child_refusal
-      child_deepest h f = refused_answers (first_is (past p (holds (le-leb which 1 w) (fails (le-ltb (depth_of code) (greatest_depth (dimension_of code)) (omega (arith, limit))))))) (omega arith) f
+      child_deepest h = refused_answers Deepest (first_is (past p (holds (le-leb which 1 w) (fails (le-ltb (depth_of code) (greatest_depth (dimension_of code)) (omega (arith, limit)))))))
 
       module _ (l : D < g) {n : ℕ} (long : n ≡ code_length d (D + 1)) where
         deeper : depth_of code < greatest_depth (dimension_of code)
@@ -67,17 +70,14 @@ module _ (code : List ℕ) (which : ℕ) (before : List ℕ) where
         size : code_length (dimension_of code) (suc (depth_of code)) ≡ n
         size = rw (← axes, ← depth, ← add-one D, long) refl
 
-        pub child_short : {r : Written} → length before < n → (r.refusal ≡ refused_short) × (r.length ≡ 0) → Child code which before r before
+        pub child_short : length before < n → Child code which before (written (Err Short)) before
         unfolding child_refusal
-        child_short h f = refused_answers (first_is (past p (holds (le-leb which 1 w) (holds (lt-ltb (depth_of code) (greatest_depth (dimension_of code)) deeper)
-            (fails (lt-leb (code_length (dimension_of code) (suc (depth_of code))) (length before) (omega (arith, size)))))))) (omega arith) f
+        child_short h = refused_answers Short (first_is (past p (holds (le-leb which 1 w) (holds (lt-ltb (depth_of code) (greatest_depth (dimension_of code)) deeper)
+            (fails (lt-leb (code_length (dimension_of code) (suc (depth_of code))) (length before) (omega (arith, size))))))))
 
-        pub child_ready : n ≤ length before → ChildReady code d D before
-        child_ready h = record { passes = p; axes = axes; depth = depth; room = rw (← add-one D, ← long) h }
-
-        pub child_done : {after : List ℕ} → n ≤ length before → after ≡ child_code which code ++ drop (code_length d (suc D)) before
-            → Child code which before (record { refusal = done; length = n }) after
+        pub child_done : {after : List ℕ} → n ≤ length before → after ≡ child_code which code ++ drop (code_length (dimension_of code) (suc (depth_of code))) before
+            → Child code which before (written (Ok n)) after
         unfolding child_refusal
         child_done h g = done_answers (child_code which code) (first_is (past p (holds (le-leb which 1 w) (holds (lt-ltb (depth_of code) (greatest_depth (dimension_of code)) deeper)
             (holds (le-leb (code_length (dimension_of code) (suc (depth_of code))) (length before) (omega (arith, size))) all_hold)))))
-            (sym size ∙ child_length code which p) (g ∙ ap (λ (m : ℕ). child_code which code ++ drop m before) (sym (long ∙ ap (code_length d) (add-one D)))) (child_of code which p)
+            (sym size ∙ child_length code which p) (g ∙ ap (λ (m : ℕ). child_code which code ++ drop m before) size) (child_of code which p)

@@ -1,13 +1,17 @@
 -- What the promises of the code layer leave open: nothing. Two outcomes that an entry's contract allows for one
 -- input are equal, the answer and every lent cell.
-use Rattle.std.specs.Prelude.{◌≡◌, refl, List, [], ◌∷◌, ◌++◌, ℕ, length, drop}
+use Rattle.std.specs.Prelude.{◌≡◌, refl, List, [], ◌∷◌, ◌++◌, ℕ, Result, Ok, Err, length, drop}
 use Rattle.std.proofs.Common.{sym, ap, ◌∙◌}
 use Rattle.std.proofs.Math.Decide.{ℕ_discrete}
+use Rattle.bisection.specs.declared.Refusal.{Refusal}
+use Rattle.bisection.specs.NumberLaws.{refuses, one_refusal}
 use Rattle.bisection.specs.Refusals.{code_refusal}
 use Rattle.bisection.proofs.Theorems.CodePaths.{one_path}
 use Rattle.bisection.proofs.Theorems.CellChildren.{shorter}
 use Rattle.codes.specs.declared.Written.{Written}
 use Rattle.codes.specs.declared.PathWritten.{PathWritten}
+use Rattle.codes.specs.declared.Lengths.{Lengths}
+use Rattle.codes.specs.Forms.{written, path_written}
 use Rattle.codes.specs.Outcomes.{Writes, Answers, PathToCode, to_path_refusal, PathOf, CodeToPath, VerticesOf, Vertices, ChildOf, Child, ParentOf, Parent}
 
 -- an outcome: the answer and the buffer at exit
@@ -87,3 +91,16 @@ code_to_path_determined {code} {roots} {paths} {root} {path} {root'} {path'} {r}
         p : (w.root ≡ w'.root) × (w.path ≡ w'.path)
         p = one_path w.is_code w'.is_code
     go (no e) = let n = c.refused e in let n' = c'.refused e in (same (n.0 ∙ sym n'.0) (n.1 ∙ sym n'.1), n.2 ∙ sym n'.2, n.3 ∙ sym n'.3)
+
+-- the form that a C program has of an answer loses nothing
+pub one_written : (r r' : Result ℕ Refusal) → written r ≡ written r' → r ≡ r'
+one_written (Ok n) (Ok m) e = ap Ok (ap (λ (w : Written). w.length) e)
+one_written (Ok n) (Err y) e = absurd (refuses y (sym (ap (λ (w : Written). w.refusal) e)))
+one_written (Err x) (Ok m) e = absurd (refuses x (ap (λ (w : Written). w.refusal) e))
+one_written (Err x) (Err y) e = ap Err (one_refusal x y (ap (λ (w : Written). w.refusal) e))
+
+pub one_path_written : (r r' : Result Lengths Refusal) → path_written r ≡ path_written r' → r ≡ r'
+one_path_written (Ok n) (Ok m) e = ap Ok (λ i. record { axes = (e i).axes; depth = (e i).depth })
+one_path_written (Ok n) (Err y) e = absurd (refuses y (sym (ap (λ (w : PathWritten). w.refusal) e)))
+one_path_written (Err x) (Ok m) e = absurd (refuses x (ap (λ (w : PathWritten). w.refusal) e))
+one_path_written (Err x) (Err y) e = ap Err (one_refusal x y (ap (λ (w : PathWritten). w.refusal) e))

@@ -1,14 +1,18 @@
 -- The head of a code and the order of refusals, one law for each way out of the code that decides them.
-use Rattle.std.specs.Prelude.{◌≡◌, refl, Bool, true, false, not, List, ◌≢◌, ℕ, ◌+◌, ◌≤◌, ◌<◌, length, get_or, take, drop}
+use Rattle.std.specs.Prelude.{◌≡◌, Bool, true, false, not, List, ◌≢◌, ℕ, Ok, Err, ◌+◌, ◌≤◌, ◌<◌, length, get_or, take, drop}
 use Rattle.std.proofs.Math.Path.{sym}
 use Rattle.std.proofs.Common.{ap, ◌∙◌, arith, length-drop, get_or-take}
 use Rattle.std.proofs.Math.Seq.{paste}
 use Rattle.std.proofs.lemmas.List.Edits.{length-paste}
 use borrow.Author.Tests.{lt-leb, le-leb, ne_eqb, leb-true, not-true, not-false}
-use Rattle.dimension.specs.Sizes.{is_dimension, halvings, greatest_depth, code_length, box_depth, split_place}
-use Rattle.dimension.specs.Laws.{Dimension, dimension, box_in, split_range}
+use Rattle.dimension.specs.Sizes.{is_dimension, axes_of, halvings, greatest_depth, code_length, box_depth, split_place}
+use Rattle.dimension.specs.Laws.{Dimension as Ranges, dimension, box_in, split_range}
 use Rattle.bisection.specs.Codes.{dimension_of, depth_of, entries_of, orthants_of}
-use Rattle.bisection.specs.Refusals.{done, refused_dimension, refused_depth, refused_length, refused_permutation, refused_orthant, refused_sign, permutes, orthants_fit, signs_own, head_refusal, length_of, body_refusal, code_refusal}
+use Rattle.bisection.specs.Refusals.{done, refused_length, refused_permutation, refused_orthant, refused_sign, permutes, orthants_fit, signs_own, head_refusal, length_of, body_refusal, code_refusal}
+use Rattle.bisection.specs.declared.Refusal.{Refusal}
+use Rattle.bisection.specs.declared.Refusal.TheVariants.{Dimension, Depth}
+use Rattle.bisection.specs.Numbers.{number_of}
+use Rattle.bisection.specs.NumberLaws.{refuses}
 use Rattle.bisection.specs.Theorems.Ladders.{all_hold, holds, fails, past, stops}
 use Rattle.bisection.proofs.Theorems.Ladders.{first_is, held_at}
 use Rattle.entries.specs.SignMasks.{AxesWithin, permuted_axes}
@@ -17,32 +21,27 @@ use Rattle.entries.specs.Words.{NoneBehind}
 use Rattle.fours.specs.Fours.{no_entries}
 use Rattle.fours.specs.Laws.{pasted_at, pasted_none}
 use Rattle.codes.specs.declared.Head.{Head}
-use Rattle.codes.specs.Fronts.{front_refusal, front_length, inner_refusal, HeadIs, Headed}
+use Rattle.codes.specs.Fronts.{inner_refusal, HeadIs, Headed}
 use Rattle.codes.specs.Fronts.Laws.{front_refusal_is, front_dimension_is, front_length_is, inner_refusal_is, headed_refusal}
 
 -- what a head tells, refused and done
 module _ (bs : List ℕ) where
-  head_refused : (number : ℕ) → number ≢ done → head_refusal bs ≡ number → HeadIs bs (record { refusal = number; dimension = 0; length = 0 })
-  head_refused number n e = record { refusal = sym is; refused = λ q. (refl, refl); dimension = λ q. absurd (n (sym is ∙ q)); length = λ q. absurd (n (sym is ∙ q)) }
-    where
-      is : front_refusal bs ≡ number
-      is = front_refusal_is bs ∙ e
-
-  head_passed : (n : ℕ) → n ≡ code_length (dimension_of bs) (depth_of bs) → head_refusal bs ≡ done → HeadIs bs (record { refusal = done; dimension = dimension_of bs; length = n })
-  head_passed n q e = record { refusal = sym (front_refusal_is bs ∙ e); refused = λ h. absurd (h (front_refusal_is bs ∙ e)); dimension = λ h. sym (front_dimension_is bs); length = λ h. q ∙ sym (front_length_is bs) }
-
-  pub head_none : is_dimension (dimension_of bs) ≡ false → HeadIs bs (record { refusal = refused_dimension; dimension = 0; length = 0 })
+  pub head_none : is_dimension (dimension_of bs) ≡ false → HeadIs bs (Err Dimension)
   unfolding head_refusal
-  head_none e = head_refused refused_dimension (omega arith) (first_is (fails e))
+  head_none e = sym (front_refusal_is bs ∙ first_is (fails e))
 
   module _ (e : is_dimension (dimension_of bs) ≡ true) where
-    pub head_deep : greatest_depth (dimension_of bs) < depth_of bs → HeadIs bs (record { refusal = refused_depth; dimension = 0; length = 0 })
+    pub head_deep : greatest_depth (dimension_of bs) < depth_of bs → HeadIs bs (Err Depth)
     unfolding head_refusal
-    head_deep h = head_refused refused_depth (omega arith) (first_is (holds e (fails (lt-leb (depth_of bs) (greatest_depth (dimension_of bs)) h))))
+    head_deep h = sym (front_refusal_is bs ∙ first_is (holds e (fails (lt-leb (depth_of bs) (greatest_depth (dimension_of bs)) h))))
 
-    pub head_done : depth_of bs ≤ greatest_depth (dimension_of bs) → (n : ℕ) → n ≡ code_length (dimension_of bs) (depth_of bs) → HeadIs bs (record { refusal = done; dimension = dimension_of bs; length = n })
+    pub head_done : depth_of bs ≤ greatest_depth (dimension_of bs) → {r : Head} → axes_of r.dim ≡ dimension_of bs → r.length ≡ code_length (dimension_of bs) (depth_of bs) → HeadIs bs (Ok r)
     unfolding head_refusal
-    head_done h n q = head_passed n q (first_is (holds e (holds (le-leb (depth_of bs) (greatest_depth (dimension_of bs)) h) all_hold)))
+    head_done h a q = record {
+      passes = front_refusal_is bs ∙ first_is (holds e (holds (le-leb (depth_of bs) (greatest_depth (dimension_of bs)) h) all_hold));
+      dimension = a ∙ sym (front_dimension_is bs);
+      length = q ∙ sym (front_length_is bs);
+    }
 
 -- what the head tells of a code that has its length
 module _ {code : List ℕ} (b : Headed code) where
@@ -53,7 +52,7 @@ module _ {code : List ℕ} (b : Headed code) where
   unfolding head_refusal
   ready_dimension = held_at _ tt passes 0
 
-  ready_range : Dimension (dimension_of code)
+  ready_range : Ranges (dimension_of code)
   ready_range = dimension (dimension_of code) ready_dimension
 
   ready_depth : depth_of code ≤ greatest_depth (dimension_of code)
@@ -179,24 +178,21 @@ module _ (code : List ℕ) where
   unfolding code_refusal
   check_short h = sym (first_is (fails (lt-leb 2 (length code) h)))
 
-  module _ (two : 2 ≤ length code) (r : Head) (is : HeadIs code r) where
-    head_is : head_refusal code ≡ r.refusal
-    head_is = sym (front_refusal_is code) ∙ sym is.refusal
-
-    pub check_head : r.refusal ≢ done → r.refusal ≡ code_refusal code
+  module _ (two : 2 ≤ length code) where
+    pub check_head : (x : Refusal) → HeadIs code (Err x) → number_of x ≡ code_refusal code
     unfolding code_refusal
-    check_head n = sym (first_is (holds (le-leb 2 (length code) two) (stops head_is n)))
+    check_head x is = sym (first_is (holds (le-leb 2 (length code) two) (stops (sym (is ∙ front_refusal_is code)) (refuses x))))
 
-    module _ (e : r.refusal ≡ done) where
-      size_is : r.length ≡ front_length code
-      size_is = is.length (sym is.refusal ∙ e)
+    module _ {r : Head} (is : HeadIs code (Ok r)) where
+      passed : head_refusal code ≡ done
+      passed = sym (front_refusal_is code) ∙ is.passes
 
       pub check_length : length code ≢ r.length → refused_length ≡ code_refusal code
       unfolding code_refusal length_of
-      check_length n = sym (first_is (holds (le-leb 2 (length code) two) (past (head_is ∙ e) (fails (ne_eqb (length code) (code_length (dimension_of code) (depth_of code)) (λ q. n (q ∙ sym (size_is ∙ front_length_is code))))))))
+      check_length n = sym (first_is (holds (le-leb 2 (length code) two) (past passed (fails (ne_eqb (length code) (code_length (dimension_of code) (depth_of code)) (λ q. n (q ∙ sym (is.length ∙ front_length_is code))))))))
 
       pub check_headed : length code ≡ r.length → Headed code
-      check_headed q = record { head = sym is.refusal ∙ e; size = q ∙ size_is }
+      check_headed q = record { head = is.passes; size = q ∙ is.length }
 
       pub check_body : length code ≡ r.length → (x : ℕ) → x ≡ inner_refusal code → x ≡ code_refusal code
       check_body q x b = b ∙ sym (headed_refusal code (check_headed q))

@@ -1,5 +1,5 @@
 -- The parent: one law for each way out of the code, and that it is the code of the path without its last step.
-use Rattle.std.specs.Prelude.{◌≡◌, refl, List, [], ◌∷◌, ◌++◌, ◌≢◌, ℕ, suc, ◌-◌, ◌≤◌, ◌<◌, length}
+use Rattle.std.specs.Prelude.{◌≡◌, refl, List, [], ◌∷◌, ◌++◌, ◌≢◌, ℕ, Ok, Err, suc, ◌-◌, ◌≤◌, ◌<◌, length}
 use Rattle.std.proofs.Math.Path.{sym, ap}
 use Rattle.std.proofs.Common.{◌∙◌, subst, le-leb, lt-ltb, le-ltb}
 use native.Mathlib.Omega.{arith}
@@ -8,7 +8,11 @@ use Rattle.std.proofs.lemmas.List.{get_or_at}
 use Rattle.std.proofs.lemmas.Bool.{lt-leb}
 use Rattle.dimension.specs.Sizes.{code_length}
 use Rattle.bisection.specs.Codes.{bytes, dimension_of, depth_of, parts_of, IsCodeOf}
-use Rattle.bisection.specs.Refusals.{done, refused_root, refused_short, code_refusal}
+use Rattle.bisection.specs.Refusals.{done, code_refusal}
+use Rattle.bisection.specs.declared.Refusal.{Refusal}
+use Rattle.bisection.specs.declared.Refusal.TheVariants.{Root, Short}
+use Rattle.bisection.specs.Numbers.{number_of}
+use Rattle.bisection.specs.NumberLaws.{refuses}
 use Rattle.bisection.specs.Theorems.Ladders.{all_hold, holds, fails, past, stops}
 use Rattle.bisection.proofs.Theorems.Ladders.{first_is}
 use Rattle.bisection.specs.Theorems.Passing.{Passes, last_step, parent_name}
@@ -18,7 +22,7 @@ use Rattle.bisection.proofs.Theorems.Paths.{path_suc}
 use Rattle.bisection.specs.Theorems.CodePaths.{parent_code, root_of, path_of}
 use Rattle.bisection.proofs.Theorems.CodePaths.{code_path, parent_code_is}
 use Rattle.entries.specs.Passed.{Checked, checked}
-use Rattle.codes.specs.declared.Written.{Written}
+use Rattle.codes.specs.Forms.{written}
 use Rattle.codes.specs.Outcomes.{parent_refusal, Parent, ParentOf}
 use Rattle.codes.specs.Writing.{refused_answers, done_answers}
 
@@ -72,18 +76,18 @@ module _ (code : List ℕ) (e : code_refusal code ≡ done) (l : 0 < depth_of co
 
 -- the ways out, in document 01's order
 module _ (code before : List ℕ) where
-  pub parent_own : {x : ℕ} {r : Written} → x ≡ code_refusal code → x ≢ done → (r.refusal ≡ x) × (r.length ≡ 0) → Parent code before r before
+  pub parent_own : (x : Refusal) → number_of x ≡ code_refusal code → Parent code before (written (Err x)) before
   unfolding parent_refusal
-  parent_own e n f = refused_answers (first_is (stops (sym e) n)) n f
+  parent_own x e = refused_answers x (first_is (stops (sym e) (refuses x)))
 
   -- as the code has the code's refusal and its depth
-  module _ {x D : ℕ} (e : x ≡ code_refusal code) (z : x ≡ done) (depth : D ≡ depth_of code) where
+  module _ {D : ℕ} (e : done ≡ code_refusal code) (depth : D ≡ depth_of code) where
     p : code_refusal code ≡ done
-    p = sym e ∙ z
+    p = sym e
 
-    pub parent_root : {r : Written} → D ≡ 0 → (r.refusal ≡ refused_root) × (r.length ≡ 0) → Parent code before r before
+    pub parent_root : D ≡ 0 → Parent code before (written (Err Root)) before
     unfolding parent_refusal
-    parent_root h f = refused_answers (first_is (past p (fails (le-ltb 0 (depth_of code) (omega arith))))) (omega arith) f
+    parent_root h = refused_answers Root (first_is (past p (fails (le-ltb 0 (depth_of code) (omega arith)))))
 
     -- as the code has the dimension and the parent's length
     module _ (l : D ≢ 0) {d n : ℕ} (axes : d ≡ dimension_of code) (long : n ≡ code_length d (D - 1)) where
@@ -93,14 +97,14 @@ module _ (code before : List ℕ) where
       size : code_length (dimension_of code) (depth_of code - 1) ≡ n
       size = rw (← axes, ← depth, long) refl
 
-      pub parent_short : {r : Written} → length before < n → (r.refusal ≡ refused_short) × (r.length ≡ 0) → Parent code before r before
+      pub parent_short : length before < n → Parent code before (written (Err Short)) before
       unfolding parent_refusal
-      parent_short h f = refused_answers (first_is (past p (holds (lt-ltb 0 (depth_of code) deep)
-          (fails (lt-leb (code_length (dimension_of code) (depth_of code - 1)) (length before) (omega (arith, size))))))) (omega arith) f
+      parent_short h = refused_answers Short (first_is (past p (holds (lt-ltb 0 (depth_of code) deep)
+          (fails (lt-leb (code_length (dimension_of code) (depth_of code - 1)) (length before) (omega (arith, size)))))))
 
-      pub parent_done : {after : List ℕ} → n ≤ length before → after ≡ parent_code code ++ drop (code_length d (D - 1)) before
-          → Parent code before (record { refusal = done; length = n }) after
+      pub parent_done : {after : List ℕ} → n ≤ length before → after ≡ parent_code code ++ drop (code_length (dimension_of code) (depth_of code - 1)) before
+          → Parent code before (written (Ok n)) after
       unfolding parent_refusal
       parent_done h g = done_answers (parent_code code) (first_is (past p (holds (lt-ltb 0 (depth_of code) deep)
           (holds (le-leb (code_length (dimension_of code) (depth_of code - 1)) (length before) (omega (arith, size))) all_hold))))
-          (sym size ∙ parent_length code p deep) (g ∙ ap (λ (m : ℕ). parent_code code ++ drop m before) (sym long)) (parent_of code p deep)
+          (sym size ∙ parent_length code p deep) (g ∙ ap (λ (m : ℕ). parent_code code ++ drop m before) size) (parent_of code p deep)

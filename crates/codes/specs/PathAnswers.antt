@@ -1,6 +1,6 @@
 -- Path to code and code to path: one law for each way out of the code.
-use Rattle.std.specs.Prelude.{◌≡◌, refl, Bool, true, false, not, List, ◌++◌, ◌≢◌, ℕ, ◌≤◌, ◌<◌, leb, length, get_or}
-use Rattle.std.proofs.Common.{sym, ◌∙◌, subst, arith, length-append}
+use Rattle.std.specs.Prelude.{◌≡◌, refl, Bool, true, false, not, List, ◌++◌, ◌⊎◌, ℕ, Result, Ok, Err, IsErrAnd, ◌≤◌, ◌<◌, leb, length, get_or}
+use Rattle.std.proofs.Common.{sym, ◌∙◌, subst, arith, inl, inr, length-append}
 use Rattle.std.proofs.Math.Path.{ap}
 use Rattle.std.proofs.Math.ListN.{drop}
 use borrow.Author.Tests.{le-leb, lt-leb, not-true, not-false}
@@ -9,7 +9,11 @@ use Rattle.dimension.specs.Sizes.{is_dimension, axes_of, greatest_depth, code_le
 use Rattle.dimension.specs.Laws.{axes_dimension}
 use Rattle.bisection.specs.Roots.{GoodRoot}
 use Rattle.bisection.specs.Codes.{axis, minus, bytes, code_of, IsCodeOf, dimension_of, depth_of}
-use Rattle.bisection.specs.Refusals.{done, refused_dimension, refused_depth, refused_permutation, refused_step, refused_short, each, permutes, code_refusal, is_root, is_path}
+use Rattle.bisection.specs.Refusals.{done, each, permutes, code_refusal, is_root, is_path}
+use Rattle.bisection.specs.declared.Refusal.{Refusal}
+use Rattle.bisection.specs.declared.Refusal.TheVariants.{Dimension, Depth, Permutation, Step, Short}
+use Rattle.bisection.specs.Numbers.{number_of}
+use Rattle.bisection.specs.NumberLaws.{refuses}
 use Rattle.bisection.specs.Theorems.Ladders.{all_hold, holds, fails, past, stops}
 use Rattle.bisection.proofs.Theorems.Ladders.{first_is}
 use Rattle.bisection.specs.Theorems.Entries.{Signed}
@@ -17,8 +21,8 @@ use Rattle.bisection.proofs.Theorems.Paths.{plain_axis}
 use Rattle.bisection.proofs.Theorems.Checked.{both, each_at, permutes_signed}
 use Rattle.bisection.specs.Theorems.CodePaths.{root_of, path_of}
 use Rattle.bisection.proofs.Theorems.CodePaths.{name_passes, code_path, length_root, length_path_of}
-use Rattle.codes.specs.declared.Written.{Written}
-use Rattle.codes.specs.declared.PathWritten.{PathWritten}
+use Rattle.codes.specs.declared.Lengths.{Lengths}
+use Rattle.codes.specs.Forms.{written, path_written}
 use Rattle.codes.specs.Outcomes.{path_refusal, PathToCode, to_path_refusal, CodeToPath}
 use Rattle.codes.specs.Writing.{refused_writes, done_writes}
 use Rattle.steps.specs.Descents.{CodeReady}
@@ -51,9 +55,9 @@ code_of_length root path r = sym (simp length-append (omega (arith, (name_passes
 
 -- path to code: the ways out, in document 01's order
 module _ (root path before : List ℕ) where
-  pub path_dimension : {r : Written} → is_dimension (length root) ≡ false → (r.refusal ≡ refused_dimension) × (r.length ≡ 0) → PathToCode root path before r before
+  pub path_dimension : is_dimension (length root) ≡ false → PathToCode root path before (written (Err Dimension)) before
   unfolding path_refusal
-  path_dimension e f = refused_writes (first_is (fails e)) (omega arith) f
+  path_dimension e = refused_writes Dimension (first_is (fails e))
 
   -- as the code has the dimension and its greatest depth
   module _ (dim : Dim) (axes : axes_of dim ≡ length root) {g : ℕ} (greatest : g ≡ greatest_depth (axes_of dim)) where
@@ -63,18 +67,18 @@ module _ (root path before : List ℕ) where
     limit : greatest_depth (length root) ≡ g
     limit = rw (← axes, greatest) refl
 
-    pub path_depth : {r : Written} → g < length path → (r.refusal ≡ refused_depth) × (r.length ≡ 0) → PathToCode root path before r before
+    pub path_depth : g < length path → PathToCode root path before (written (Err Depth)) before
     unfolding path_refusal
-    path_depth h f = refused_writes (first_is (holds known (fails (lt-leb (length path) (greatest_depth (length root)) (omega (arith, limit)))))) (omega arith) f
+    path_depth h = refused_writes Depth (first_is (holds known (fails (lt-leb (length path) (greatest_depth (length root)) (omega (arith, limit))))))
 
     -- and what the tests of the root and the path find
     module _ (l : length path ≤ g) {rooted : Bool} (rooted_is : rooted ≡ is_root root) where
       deep : leb (length path) (greatest_depth (length root)) ≡ true
       deep = le-leb (length path) (greatest_depth (length root)) (omega (arith, limit))
 
-      pub path_permutation : {r : Written} → not rooted ≡ true → (r.refusal ≡ refused_permutation) × (r.length ≡ 0) → PathToCode root path before r before
+      pub path_permutation : not rooted ≡ true → PathToCode root path before (written (Err Permutation)) before
       unfolding path_refusal
-      path_permutation t f = refused_writes (first_is (holds known (holds deep (fails (sym rooted_is ∙ not-true rooted t))))) (omega arith) f
+      path_permutation t = refused_writes Permutation (first_is (holds known (holds deep (fails (sym rooted_is ∙ not-true rooted t)))))
 
       module _ (t : not rooted ≡ false) {stepped : Bool} (stepped_is : stepped ≡ is_path path) where
         permuted : is_root root ≡ true
@@ -83,9 +87,9 @@ module _ (root path before : List ℕ) where
         root_good : GoodRoot root
         root_good = good_root root known permuted
 
-        pub path_step : {r : Written} → not stepped ≡ true → (r.refusal ≡ refused_step) × (r.length ≡ 0) → PathToCode root path before r before
+        pub path_step : not stepped ≡ true → PathToCode root path before (written (Err Step)) before
         unfolding path_refusal
-        path_step u f = refused_writes (first_is (holds known (holds deep (holds permuted (fails (sym stepped_is ∙ not-true stepped u)))))) (omega arith) f
+        path_step u = refused_writes Step (first_is (holds known (holds deep (holds permuted (fails (sym stepped_is ∙ not-true stepped u))))))
 
         -- and the code's length
         module _ (u : not stepped ≡ false) {n : ℕ} (long : n ≡ code_length (axes_of dim) (length path)) where
@@ -95,16 +99,16 @@ module _ (root path before : List ℕ) where
           size : code_length (length root) (length path) ≡ n
           size = rw (← axes, long) refl
 
-          pub path_short : {r : Written} → length before < n → (r.refusal ≡ refused_short) × (r.length ≡ 0) → PathToCode root path before r before
+          pub path_short : length before < n → PathToCode root path before (written (Err Short)) before
           unfolding path_refusal
-          path_short h f = refused_writes (first_is (holds known (holds deep (holds permuted (holds steps
-              (fails (lt-leb (code_length (length root) (length path)) (length before) (omega (arith, size))))))))) (omega arith) f
+          path_short h = refused_writes Short (first_is (holds known (holds deep (holds permuted (holds steps
+              (fails (lt-leb (code_length (length root) (length path)) (length before) (omega (arith, size)))))))))
 
           pub path_ready : n ≤ length before → CodeReady (axes_of dim) root path before
           path_ready h = record { axes = axes; good_root = root_good; depth = omega arith; room = rw (← long) h }
 
           pub path_done : {after : List ℕ} → n ≤ length before → after ≡ code_of root path ++ drop (code_length (axes_of dim) (length path)) before
-              → PathToCode root path before (record { refusal = done; length = n }) after
+              → PathToCode root path before (written (Ok n)) after
           unfolding path_refusal
           path_done h g = done_writes (code_of root path) (first_is (holds known (holds deep (holds permuted (holds steps
               (holds (le-leb (code_length (length root) (length path)) (length before) (omega (arith, size))) all_hold))))))
@@ -112,41 +116,34 @@ module _ (root path before : List ℕ) where
 
 -- code to path: the ways out
 module _ (code roots paths : List ℕ) where
-  refused : {number : ℕ} {r : PathWritten} → to_path_refusal code (length roots) (length paths) ≡ number → number ≢ done
-      → (r.refusal ≡ number) × (r.axes ≡ 0) × (r.depth ≡ 0) → CodeToPath code roots paths r roots paths
-  refused e n f = record { number = f.0 ∙ sym e; refused = λ q. (f.1, f.2, refl, refl); written = λ q. absurd (n (sym e ∙ q)) }
+  refused : (x : Refusal) → to_path_refusal code (length roots) (length paths) ≡ number_of x → CodeToPath code roots paths (path_written (Err x)) roots paths
+  refused x e = record { number = sym e; refused = λ q. (refl, refl, refl, refl); written = λ q. absurd (refuses x (sym e ∙ q)) }
 
-  pub to_path_own : {x : ℕ} {r : PathWritten} → x ≡ code_refusal code → x ≢ done → (r.refusal ≡ x) × (r.axes ≡ 0) × (r.depth ≡ 0)
-      → CodeToPath code roots paths r roots paths
+  pub to_path_own : (r : Result Lengths Refusal) (x : Refusal) → IsErrAnd r (λ y. y ≡ x) → number_of x ≡ code_refusal code → CodeToPath code roots paths (path_written r) roots paths
   unfolding to_path_refusal
-  to_path_own e n f = refused (first_is (stops (sym e) n)) n f
+  to_path_own (Ok n) x is e = elim is [ ]
+  to_path_own (Err y) x is e = refused y (first_is (stops (sym e ∙ ap number_of (sym is)) (refuses y)))
 
   -- as the code has the code's refusal, its dimension and its depth
-  module _ {x a d D : ℕ} (e : x ≡ code_refusal code) (z : x ≡ done) (named : a ≡ dimension_of code) (same : d ≡ a) (dp : D ≡ depth_of code) where
+  module _ {d D : ℕ} (e : done ≡ code_refusal code) (ax : d ≡ dimension_of code) (dp : D ≡ depth_of code) where
     p : code_refusal code ≡ done
-    p = sym e ∙ z
-
-    ax : d ≡ dimension_of code
-    ax = same ∙ named
+    p = sym e
 
     wide : d ≤ length roots → leb (dimension_of code) (length roots) ≡ true
     wide l = le-leb (dimension_of code) (length roots) (omega (arith, ax))
 
-    pub root_short : {r : PathWritten} → length roots < d → (r.refusal ≡ refused_short) × (r.axes ≡ 0) × (r.depth ≡ 0) → CodeToPath code roots paths r roots paths
+    -- one of the two buffers has not the room
+    pub to_path_short : (length roots < d) ⊎ ((d ≤ length roots) × (length paths < D)) → CodeToPath code roots paths (path_written (Err Short)) roots paths
     unfolding to_path_refusal
-    root_short h f = refused (first_is (past p (fails (rw (lt-leb (dimension_of code) (length roots) (omega (arith, ax))) refl)))) (omega arith) f
-
-    pub path_room : {r : PathWritten} → d ≤ length roots → length paths < D → (r.refusal ≡ refused_short) × (r.axes ≡ 0) × (r.depth ≡ 0)
-        → CodeToPath code roots paths r roots paths
-    unfolding to_path_refusal
-    path_room l h f = refused (first_is (past p (fails (rw (wide l, lt-leb (depth_of code) (length paths) (omega arith)) refl)))) (omega arith) f
+    to_path_short (inl h) = refused Short (first_is (past p (fails (rw (lt-leb (dimension_of code) (length roots) (omega (arith, ax))) refl))))
+    to_path_short (inr h) = refused Short (first_is (past p (fails (rw (wide h.0, lt-leb (depth_of code) (length paths) (omega arith)) refl))))
 
     fits : d ≤ length roots → D ≤ length paths → to_path_refusal code (length roots) (length paths) ≡ done
     unfolding to_path_refusal
     fits l h = first_is (past p (holds (rw (wide l, le-leb (depth_of code) (length paths) (omega arith)) refl) all_hold))
 
-    pub to_path_done : {roots' paths' : List ℕ} → d ≤ length roots → D ≤ length paths → PathStands code a D roots paths roots' paths'
-        → CodeToPath code roots paths (record { refusal = done; axes = d; depth = D }) roots' paths'
+    pub to_path_done : {roots' paths' : List ℕ} → d ≤ length roots → D ≤ length paths → PathStands code (dimension_of code) (depth_of code) roots paths roots' paths'
+        → CodeToPath code roots paths (path_written (Ok (record { axes = d; depth = D }))) roots' paths'
     to_path_done l h w = record {
       number = sym (fits l h);
       refused = λ q. absurd (q (fits l h));
@@ -156,8 +153,8 @@ module _ (code roots paths : List ℕ) where
         is_code = c;
         axes = ax ∙ sym (length_root c);
         depth = dp ∙ sym (length_path_of c);
-        root_written = w.root_written ∙ ap (λ (n : ℕ). root_of code ++ drop n roots) (named ∙ sym (length_root c));
-        path_written = w.path_written ∙ ap (λ (n : ℕ). path_of code ++ drop n paths) (dp ∙ sym (length_path_of c));
+        root_written = w.root_written ∙ ap (λ (n : ℕ). root_of code ++ drop n roots) (sym (length_root c));
+        path_written = w.path_written ∙ ap (λ (n : ℕ). path_of code ++ drop n paths) (sym (length_path_of c));
       };
     }
       where

@@ -3,30 +3,35 @@
 // nothing is written before the last refusal is past. No entry has a requires.
 #![tactic(auto)]
 
-ghost use Rattle.std.specs.Prelude.{◌≡◌, Bool, true, false, not, cond, ◌+◌, ◌-◌, ◌≤◌, ◌<◌, length, get_or, drop};
-ghost use Rattle.dimension.specs.Sizes.{axes_of};
+ghost use Rattle.std.specs.Prelude.{◌≡◌, ◌≤◌, length};
+ghost use Rattle.bisection.specs.Numbers.{refusal_in};
 ghost use Rattle.bisection.specs.Refusals.{code_refusal};
-ghost use Rattle.codes.specs.Fronts.{front_depth, HeadIs, Headed, inner_refusal};
+ghost use Rattle.codes.specs.Forms.{written, path_written};
+ghost use Rattle.codes.specs.Fronts.{front_depth, HeadIs, Headed, inner_refusal, ChecksAs};
 ghost use Rattle.codes.specs.Outcomes.{PathToCode, CodeToPath, Vertices, Child, Parent};
 
-use bisection::{
-    DONE, REFUSED_DEEPEST, REFUSED_DEPTH, REFUSED_DIMENSION, REFUSED_LENGTH, REFUSED_ORTHANT,
-    REFUSED_PERMUTATION, REFUSED_ROOT, REFUSED_SHORT, REFUSED_SIGN, REFUSED_STEP,
-};
-use dimension::{Dim, Known};
+use bisection::{DONE, Refusal};
+use dimension::Dim;
 use entries::check;
+pub use entries::code::Code;
 use fours::words;
 use steps::walks;
 
-// What the head at the front of bytes says: its refusal, or the dimension and the length of the code that begins with it.
+// What the head at the front of bytes says: the dimension and the length of the code that begins with it.
 #[derive(Clone, Copy)]
 pub struct Head {
-    pub refusal: u8,
-    pub dimension: u8,
+    pub dim: Dim,
     pub length: usize,
 }
 
-// The answer of an entry that writes one buffer: how many bytes stand at its front.
+// How many bytes a root and a path have.
+#[derive(Clone, Copy)]
+pub struct Lengths {
+    pub axes: usize,
+    pub depth: usize,
+}
+
+// The answer of an entry that writes one buffer, for a C program: how many bytes stand at its front.
 #[repr(C)]
 #[derive(Clone, Copy)]
 pub struct Written {
@@ -34,7 +39,24 @@ pub struct Written {
     pub length: usize,
 }
 
-// The answer of code to path: how many bytes stand at the front of each buffer.
+impl From<Result<usize, Refusal>> for Written {
+    ghost from_gives = { λ answer form. form ≡ written answer };
+
+    fn from(answer: Result<usize, Refusal>) -> Written {
+        match answer {
+            Ok(length) => Written {
+                refusal: DONE,
+                length,
+            },
+            Err(refusal) => Written {
+                refusal: refusal.into(),
+                length: 0,
+            },
+        }
+    }
+}
+
+// The same of code to path: how many bytes stand at the front of each buffer.
 #[repr(C)]
 #[derive(Clone, Copy)]
 pub struct PathWritten {
@@ -43,34 +65,41 @@ pub struct PathWritten {
     pub depth: usize,
 }
 
+impl From<Result<Lengths, Refusal>> for PathWritten {
+    ghost from_gives = { λ answer form. form ≡ path_written answer };
+
+    fn from(answer: Result<Lengths, Refusal>) -> PathWritten {
+        match answer {
+            Ok(Lengths { axes, depth }) => PathWritten {
+                refusal: DONE,
+                axes,
+                depth,
+            },
+            Err(refusal) => PathWritten {
+                refusal: refusal.into(),
+                axes: 0,
+                depth: 0,
+            },
+        }
+    }
+}
+
 // The head of the code at the front of bytes.
-pub fn code_head(bytes: &[u8]) -> Head
+pub fn code_head(bytes: &[u8]) -> Result<Head, Refusal>
     requires { 2 ≤ length bytes.now }
     ensures { HeadIs bytes.now result }
 {
-    let dimension = bytes[0];
-    let depth = common::size(bytes[1]);
-    match Dim::of(common::size(dimension)) {
-        Known::Nothing => Head {
-            refusal: REFUSED_DIMENSION,
-            dimension: 0,
-            length: 0,
-        },
-        Known::Dimension(dim) => {
-            if dim.greatest_depth() < depth {
-                return Head {
-                    refusal: REFUSED_DEPTH,
-                    dimension: 0,
-                    length: 0,
-                };
-            }
-            Head {
-                refusal: DONE,
-                dimension,
-                length: dim.code_length(depth),
-            }
-        }
+    let depth = usize::from(bytes[1]);
+    let Some(dim) = Dim::of(usize::from(bytes[0])) else {
+        return Err(Refusal::Dimension);
+    };
+    if dim.greatest_depth() < depth {
+        return Err(Refusal::Depth);
     }
+    Ok(Head {
+        dim,
+        length: dim.code_length(depth),
+    })
 }
 
 // The depth that the head at the front of bytes gives.
@@ -78,192 +107,138 @@ pub fn code_depth(bytes: &[u8]) -> usize
     requires { 2 ≤ length bytes.now }
     ensures { result ≡ front_depth bytes.now }
 {
-    common::size(bytes[1])
+    usize::from(bytes[1])
 }
 
 // The refusal 4, 5 or 6 of a code whose head passes and gives it its length.
-pub fn code_body(code: &[u8]) -> u8
+pub fn code_body(code: &[u8]) -> Result<(), Refusal>
     requires { Headed code.now }
-    ensures { result ≡ inner_refusal code.now }
+    ensures { refusal_in result ≡ inner_refusal code.now }
 {
     let code = &*code; // lent on anew, it comes in registers
-    let d = common::size(code[0]);
+    let d = usize::from(code[0]);
     let entries = words::word_in(code, d);
     if !check::permuted(entries, d) {
-        return REFUSED_PERMUTATION;
+        return Err(Refusal::Permutation);
     }
     if !check::orthants_fit(code, d) {
-        return REFUSED_ORTHANT;
+        return Err(Refusal::Orthant);
     }
     let k = check::split_of(code, d);
     if !check::signs_by(entries, k, check::own_byte(code, d)) {
-        return REFUSED_SIGN;
+        return Err(Refusal::Sign);
     }
-    DONE
+    Ok(())
 }
 
-// The refusal of a code, 0 where it passes.
-pub fn code_check(code: &[u8]) -> u8
-    ensures { result ≡ code_refusal code.now }
+// The check of a code.
+pub fn code_check(code: &[u8]) -> Result<(), Refusal>
+    ensures { refusal_in result ≡ code_refusal code.now }
 {
     if code.len() < 2 {
-        return REFUSED_LENGTH;
+        return Err(Refusal::Length);
     }
-    let head = code_head(code);
-    if head.refusal != DONE {
-        return head.refusal;
-    }
+    let head = code_head(code)?;
     if code.len() != head.length {
-        return REFUSED_LENGTH;
+        return Err(Refusal::Length);
     }
     code_body(code)
 }
 
-// A refusal: its number, and nothing written.
-fn refused(refusal: u8) -> Written
-    ensures { (result.refusal ≡ refusal) × (result.length ≡ 0) }
+// Bytes as a code that passes.
+pub fn checked(bytes: &[u8]) -> Result<Code, Refusal>
+    ensures { ChecksAs bytes.now result }
 {
-    Written { refusal, length: 0 }
+    code_check(bytes)?;
+    Ok(Code::known(bytes))
 }
 
-// The code of a root and a path.
-pub fn path_to_code(root: &[u8], path: &[u8], code: &mut [u8]) -> Written
-    ensures { PathToCode root.now path.now code.old result code.new }
+// The code of a root and a path: its length.
+pub fn path_to_code(root: &[u8], path: &[u8], code: &mut [u8]) -> Result<usize, Refusal>
+    ensures { PathToCode root.now path.now code.old (written result) code.new }
 {
-    match Dim::of(root.len()) {
-        Known::Nothing => refused(REFUSED_DIMENSION),
-        Known::Dimension(dim) => path_in(dim, root, path, code),
-    }
-}
-
-// The same, where the root has as many bytes as the dimension has axes.
-fn path_in(dim: Dim, root: &[u8], path: &[u8], code: &mut [u8]) -> Written
-    requires { axes_of dim ≡ length root.now }
-    ensures { PathToCode root.now path.now code.old result code.new }
-{
+    let Some(dim) = Dim::of(root.len()) else {
+        return Err(Refusal::Dimension);
+    };
     if dim.greatest_depth() < path.len() {
-        return refused(REFUSED_DEPTH);
+        return Err(Refusal::Depth);
     }
     if !check::is_root(root) {
-        return refused(REFUSED_PERMUTATION);
+        return Err(Refusal::Permutation);
     }
     if !check::is_path(path) {
-        return refused(REFUSED_STEP);
+        return Err(Refusal::Step);
     }
     let length = dim.code_length(path.len());
     if code.len() < length {
-        return refused(REFUSED_SHORT);
+        return Err(Refusal::Short);
     }
     walks::write_code(dim, root, path, code);
-    Written {
-        refusal: DONE,
-        length,
-    }
-}
-
-// A refusal of two buffers.
-fn path_refused(refusal: u8) -> PathWritten
-    ensures { (result.refusal ≡ refusal) × (result.axes ≡ 0) × (result.depth ≡ 0) }
-{
-    PathWritten {
-        refusal,
-        axes: 0,
-        depth: 0,
-    }
+    Ok(length)
 }
 
 // The root and the path whose code it is.
-pub fn code_to_path(code: &[u8], root: &mut [u8], path: &mut [u8]) -> PathWritten
-    ensures { CodeToPath code.now root.old path.old result root.new path.new }
+pub fn code_to_path(code: &[u8], root: &mut [u8], path: &mut [u8]) -> Result<Lengths, Refusal>
+    ensures { CodeToPath code.now root.old path.old (path_written result) root.new path.new }
 {
-    let refusal = code_check(code);
-    if refusal != DONE {
-        return path_refused(refusal);
+    let code = checked(code)?;
+    let axes = code.axes();
+    let depth = code.depth();
+    if root.len() < axes || path.len() < depth {
+        return Err(Refusal::Short);
     }
-    let dim = check::dimension_of(code);
-    let axes = dim.axes();
-    let depth = check::depth_of(code);
-    if root.len() < axes {
-        return path_refused(REFUSED_SHORT);
-    }
-    if path.len() < depth {
-        return path_refused(REFUSED_SHORT);
-    }
-    let answer = PathWritten {
-        refusal: DONE,
-        axes,
-        depth,
-    };
-    walks::write_path(code, dim, depth, root, path);
-    answer
+    walks::write_path(&code, root, path);
+    Ok(Lengths { axes, depth })
 }
 
 // The vertices of a code's cell in vertex order, d coordinates each, two bytes a coordinate, the low byte first.
-pub fn vertices(code: &[u8], points: &mut [u8]) -> Written
-    ensures { Vertices code.now points.old result points.new }
+pub fn vertices(code: &[u8], points: &mut [u8]) -> Result<usize, Refusal>
+    ensures { Vertices code.now points.old (written result) points.new }
 {
-    let refusal = code_check(code);
-    if refusal != DONE {
-        return refused(refusal);
-    }
-    let length = check::dimension_of(code).points_length();
+    let code = checked(code)?;
+    let length = code.dim().points_length();
     if points.len() < length {
-        return refused(REFUSED_SHORT);
+        return Err(Refusal::Short);
     }
-    corners::write_cell(code, points);
-    Written {
-        refusal: DONE,
-        length,
-    }
+    corners::write_cell(&code, points);
+    Ok(length)
 }
 
 // The child of a code's cell, child 0 or 1: the code of the path with one step more.
-pub fn child(code: &[u8], which: u8, out: &mut [u8]) -> Written
-    ensures { Child code.now which out.old result out.new }
+pub fn child(code: &[u8], which: u8, out: &mut [u8]) -> Result<usize, Refusal>
+    ensures { Child code.now which out.old (written result) out.new }
 {
-    let refusal = code_check(code);
-    if refusal != DONE {
-        return refused(refusal);
-    }
+    let code = checked(code)?;
     if 1 < which {
-        return refused(REFUSED_STEP);
+        return Err(Refusal::Step);
     }
-    let dim = check::dimension_of(code);
-    let depth = check::depth_of(code);
+    let dim = code.dim();
+    let depth = code.depth();
     if dim.greatest_depth() <= depth {
-        return refused(REFUSED_DEEPEST);
+        return Err(Refusal::Deepest);
     }
     let length = dim.code_length(depth + 1);
     if out.len() < length {
-        return refused(REFUSED_SHORT);
+        return Err(Refusal::Short);
     }
-    steps::write_child(code, dim, depth, which, out);
-    Written {
-        refusal: DONE,
-        length,
-    }
+    steps::write_child(&code, which, out);
+    Ok(length)
 }
 
 // The parent of a code's cell: the code of the path without its last step.
-pub fn parent(code: &[u8], out: &mut [u8]) -> Written
-    ensures { Parent code.now out.old result out.new }
+pub fn parent(code: &[u8], out: &mut [u8]) -> Result<usize, Refusal>
+    ensures { Parent code.now out.old (written result) out.new }
 {
-    let refusal = code_check(code);
-    if refusal != DONE {
-        return refused(refusal);
-    }
-    let depth = check::depth_of(code);
+    let code = checked(code)?;
+    let depth = code.depth();
     if depth == 0 {
-        return refused(REFUSED_ROOT);
+        return Err(Refusal::Root);
     }
-    let dim = check::dimension_of(code);
+    let dim = code.dim();
     let length = dim.code_length(depth - 1);
     if out.len() < length {
-        return refused(REFUSED_SHORT);
+        return Err(Refusal::Short);
     }
-    steps::write_parent(code, dim, depth - 1, out);
-    Written {
-        refusal: DONE,
-        length,
-    }
+    steps::write_parent(&code, out);
+    Ok(length)
 }

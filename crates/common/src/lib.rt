@@ -10,14 +10,11 @@ pub fn size(x: u8) -> usize
     x as usize
 }
 
-// One of two numbers.
-pub fn pick(b: bool, x: u64, y: u64) -> u64
+// One of two values.
+pub fn pick<T: Copy>(b: bool, x: T, y: T) -> T
     ensures { result ≡ cond b x y }
 {
-    if b {
-        return x;
-    }
-    y
+    if b { x } else { y }
 }
 
 // Copies n bytes from `from` in src to `to` in dst.
@@ -25,9 +22,5 @@ pub fn copy(src: &[u8], from: usize, n: usize, dst: &mut [u8], to: usize)
     requires { (from + n ≤ length src.now) × (to + n ≤ length dst.old) }
     ensures { dst.new ≡ paste dst.old to (drop from src.now) n }
 {
-    let mut i: usize = 0;
-    while i < n {
-        dst[to + i] = src[from + i];
-        i += 1;
-    }
+    dst[to..to + n].copy_from_slice(&src[from..from + n]);
 }

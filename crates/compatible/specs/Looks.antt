@@ -1,8 +1,8 @@
 -- One look at a cell: what is found of it tells whether it is matched. A cell that is a leaf or split is present. One that lies inside a
 -- leaf is matched exactly where that leaf is its parent and the place is that of its newest vertex, since every cell is among the leaves
 -- in one way only.
-use Rattle.std.specs.Prelude.{◌≡◌, Bool, true, false, List, ℕ, ◌+◌, ◌^◌, ◌≤◌, ◌<◌, length, T, eqb}
-use Rattle.std.proofs.Common.{sym, ap, ◌∙◌, subst, subst₂, arith, eqb-true}
+use Rattle.std.specs.Prelude.{◌≡◌, Bool, true, false, List, ℕ, ◌+◌, ◌^◌, ◌≤◌, ◌<◌, length, T, eqb, ◌⊎◌}
+use Rattle.std.proofs.Common.{inl, inr, sym, ap, ◌∙◌, subst, subst₂, arith, eqb-true}
 use Rattle.std.proofs.lemmas.Bool.{eqb-false}
 use Rattle.dimension.specs.Sizes.{is_dimension, greatest_depth, split_place}
 use Rattle.dimension.specs.Laws.{dimension, depth_small}
@@ -17,6 +17,7 @@ use Rattle.positions.specs.Positions.{PositionIs}
 use Rattle.sheets.specs.Forests.{TreeCell, tree_cell, Leaves}
 use Rattle.sheets.specs.Sheets.{GoodSheet, leaf_in}
 use Rattle.sheets.specs.Theorems.Good.{same_cells}
+use Rattle.finding.specs.declared.Entry.{Entry}
 use Rattle.finding.specs.declared.Spread.{Spread}
 use Rattle.finding.specs.declared.Found.{Found}
 use Rattle.finding.specs.declared.Kind.TheVariants.{Leaf, Inside, Split}
@@ -29,7 +30,7 @@ use Rattle.rings.specs.Rings.{Present, leaf, split, Matched, present}
 use Rattle.rings.proofs.Theorems.Leaves.{inside_matched, matched_inside}
 
 -- an index of a good sheet, and a code of its dimension that passes
-pub record LookReady (mark : List ℕ) (width : ℕ) (sheet : List ℕ) (d : ℕ) (index : List ℕ) (spread : Spread) (code : List ℕ) : Type 0 where
+pub record LookReady (mark : List ℕ) (width : ℕ) (sheet : List ℕ) (d : ℕ) (index : List Entry) (spread : Spread) (code : List ℕ) : Type 0 where
   pub indexed : Indexed mark width sheet d index spread
   pub passes : code_refusal code ≡ done
   pub axes : front_dimension code ≡ d
@@ -40,15 +41,15 @@ pub record LookIs (mark : List ℕ) (width : ℕ) (sheet : List ℕ) (d : ℕ) (
   pub no : r ≡ false → {m : ℕ} (g : GoodSheet mark width sheet m) (n : TreeCell) → IsCodeOf code n.root n.path → Matched d g.cells n j → ⊥
 
 -- no leaf is deep, so that a few more fit
-pub found_fits : {mark : List ℕ} {width : ℕ} {sheet : List ℕ} {d : ℕ} {p : Position} {r : Found} → FoundIs mark width sheet d p r → {n : ℕ} → n ≤ 60 → r.depth + n < 2 ^ 64
-found_fits {r = r} f l = let h = (leaf_good f.good r.number f.small).0 in let axes = length (leaf_in f.good.cells r.number).root in
+pub found_fits : {mark : List ℕ} {width : ℕ} {sheet : List ℕ} {d : ℕ} {p : Position} {r : Found} → FoundIs mark width sheet d p r → {n : ℕ} → n ≤ 60 → r.sought.depth + n < 2 ^ 64
+found_fits {r = r} f l = let h = (leaf_good f.good r.sought.number f.small).0 in let axes = length (leaf_in f.good.cells r.sought.number).root in
     omega (arith, f.depth_is, h.good_path.depth, depth_small axes (dimension axes h.good_root.dimension))
 
-module _ {mark : List ℕ} {width : ℕ} {sheet : List ℕ} {d : ℕ} {index : List ℕ} {spread : Spread} {code : List ℕ} (ready : LookReady mark width sheet d index spread code) where
+module _ {mark : List ℕ} {width : ℕ} {sheet : List ℕ} {d : ℕ} {index : List Entry} {spread : Spread} {code : List ℕ} (ready : LookReady mark width sheet d index spread code) where
   pub look_two : 2 ≤ length code
   look_two = code_two code ready.passes
 
-  pub look_known : is_dimension d ≡ true
+  look_known : is_dimension d ≡ true
   look_known = good_axes ready.indexed.coarse.good ready.indexed.coarse.axes
 
   module _ {p : Position} (at : PositionIs code p) where
@@ -64,7 +65,7 @@ module _ {mark : List ℕ} {width : ℕ} {sheet : List ℕ} {d : ℕ} {index : L
     pub look_find : FindReady mark width sheet d index spread p
     look_find = stands_ready ready.indexed own_cell.good own_stands
 
-    among : {r : Found} (f : FoundIs mark width sheet d p r) → Among f.good.cells own r.number r.kind
+    among : {r : Found} (f : FoundIs mark width sheet d p r) → Among f.good.cells own r.sought.number r.kind
     among f = f.among own own_cell.good own_stands
 
     module _ {r : Found} (f : FoundIs mark width sheet d p r) {j : ℕ} where
@@ -81,37 +82,32 @@ module _ {mark : List ℕ} {width : ℕ} {sheet : List ℕ} {d : ℕ} {index : L
       look_present : Present f.good.cells own → LookIs mark width sheet d code j true
       look_present v = look_by (λ z. present v) (λ z. absurd (subst T z tt))
 
-      pub look_leaf : r.kind ≡ Leaf → LookIs mark width sheet d code j true
-      look_leaf q = go (subst (Among f.good.cells own r.number) q (among f))
+      pub look_there : (r.kind ≡ Leaf) ⊎ (r.kind ≡ Split) → LookIs mark width sheet d code j true
+      look_there (inl q) = go (subst (Among f.good.cells own r.sought.number) q (among f))
         where
-          go : Among f.good.cells own r.number Leaf → LookIs mark width sheet d code j true
-          go (is_leaf l is) = look_present (leaf (record { number = r.number; small = l; is = is }))
-
-      pub look_split : r.kind ≡ Split → LookIs mark width sheet d code j true
-      look_split q = go (subst (Among f.good.cells own r.number) q (among f))
+          go : Among f.good.cells own r.sought.number Leaf → LookIs mark width sheet d code j true
+          go (is_leaf l is) = look_present (leaf (record { number = r.sought.number; small = l; is = is }))
+      look_there (inr q) = go (subst (Among f.good.cells own r.sought.number) q (among f))
         where
-          go : Among f.good.cells own r.number Split → LookIs mark width sheet d code j true
-          go (split_into l s first) = look_present (split (record { number = r.number; small = l; inside = s }))
+          go : Among f.good.cells own r.sought.number Split → LookIs mark width sheet d code j true
+          go (split_into l s first) = look_present (split (record { number = r.sought.number; small = l; inside = s }))
 
       module _ (q : r.kind ≡ Inside) {depth : ℕ} (deep : depth ≡ front_depth code) where
         -- yes exactly where that leaf is its parent and the place is that of its newest vertex
-        look_inside : {b : Bool} → (b ≡ true → (r.depth + 1 ≡ depth) × (j ≡ split_place d r.depth)) → (b ≡ false → r.depth + 1 ≡ depth → j ≡ split_place d r.depth → ⊥) → LookIs mark width sheet d code j b
-        look_inside {b} is not = go (subst (Among f.good.cells own r.number) q (among f))
+        look_inside : {b : Bool} → (b ≡ true → (r.sought.depth + 1 ≡ depth) × (j ≡ split_place d r.sought.depth)) → (b ≡ false → r.sought.depth + 1 ≡ depth → j ≡ split_place d r.sought.depth → ⊥) → LookIs mark width sheet d code j b
+        look_inside {b} is not = go (subst (Among f.good.cells own r.sought.number) q (among f))
           where
             leaves : Leaves (roots d) (greatest_depth d) f.good.cells
             leaves = subst (λ (n : ℕ). Leaves (roots n) (greatest_depth n) f.good.cells) f.axes f.good.leaves
 
-            go : Among f.good.cells own r.number Inside → LookIs mark width sheet d code j b
+            go : Among f.good.cells own r.sought.number Inside → LookIs mark width sheet d code j b
             go (inside l s) = look_by (λ z. inside_matched d look_known leaves l s (omega (arith, is z, deep, f.depth_is, front_path at.is_code)) ((is z).1 ∙ ap (split_place d) f.depth_is))
                 (λ z v. let o = matched_inside d look_known leaves l s v in not z (omega (arith, o.0, deep, f.depth_is, front_path at.is_code)) (o.1 ∙ ap (split_place d) (sym f.depth_is)))
 
         -- the leaf is not its parent
-        pub look_no_parent : (r.depth + 1 ≡ depth → ⊥) → LookIs mark width sheet d code j false
-        look_no_parent n = look_inside (λ z. absurd (subst T (sym z) tt)) (λ z e p. n e)
+        pub look_no_parent : (r.sought.depth + 1 ≡ depth → ⊥) → LookIs mark width sheet d code j (eqb (r.sought.depth + 1) depth)
+        look_no_parent n = look_inside (λ z. absurd (n (eqb-true (r.sought.depth + 1) depth z))) (λ z e p. n e)
 
         -- the leaf is its parent: the place decides
-        pub look_parent : r.depth + 1 ≡ depth → {a : ℕ} → a ≡ d → {k : ℕ} → k ≡ split_place a r.depth → LookIs mark width sheet d code j (eqb j k)
-        look_parent e {a} axes {k} is = look_inside (λ z. (e, eqb-true j k z ∙ newest)) (λ z e p. eqb-false j k z (p ∙ sym newest))
-          where
-            newest : k ≡ split_place d r.depth
-            newest = is ∙ ap (λ (n : ℕ). split_place n r.depth) axes
+        pub look_parent : r.sought.depth + 1 ≡ depth → {k : ℕ} → k ≡ split_place d r.sought.depth → LookIs mark width sheet d code j (eqb j k)
+        look_parent e {k} is = look_inside (λ z. (e, eqb-true j k z ∙ is)) (λ z e p. eqb-false j k z (p ∙ sym is))

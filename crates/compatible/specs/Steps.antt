@@ -1,11 +1,14 @@
 -- The last step of a leaf's path, by where the leaf starts on its root's stretch of the line: child 0 has the first half of its parent's
 -- part, child 1 the second. And where the leaf after it starts.
-use Rattle.std.specs.Prelude.{◌≡◌, refl, List, [], ◌∷◌, ◌++◌, ℕ, zero, suc, ◌+◌, ◌-◌, ◌*◌, ◌/◌, ◌%◌, ◌^◌, ◌≤◌, ◌<◌, length}
+use Rattle.std.specs.Prelude.{◌≡◌, refl, List, [], ◌∷◌, ◌++◌, ℕ, zero, suc, ◌+◌, ◌-◌, ◌*◌, ◌/◌, ◌%◌, ◌^◌, ◌≤◌, ◌<◌, length, Bool, not, eqb, bit_and}
 use Rattle.std.proofs.Common.{sym, ◌∙◌, add-mul, mul_assoc, mul-div_cancel, suc-mul, length-append, pow-add, pow_pos}
 use Rattle.std.proofs.Math.Path.{ap}
 use native.Mathlib.Omega.{arith}
 use Rattle.std.proofs.Math.Decide.{dec_lt}
+use Rattle.std.proofs.lemmas.Bool.Decides.{nat_tests}
 use Rattle.std.proofs.lemmas.List.{get_or_at}
+use Rattle.std.proofs.lemmas.Nat.Bits.{and_pow, bit_at-lt}
+use Rattle.std.specs.Int.{bit_at}
 use Rattle.dimension.specs.Sizes.{greatest_depth}
 use Rattle.bisection.specs.Codes.{IsCodeOf}
 use Rattle.bisection.proofs.Theorems.CodePaths.{one_path}
@@ -20,9 +23,9 @@ use Rattle.finding.specs.Theorems.Nested.{same_stretch}
 use Rattle.finding.specs.Theorems.OneOfThree.{CellOf, ends, start_under, leaf_cell, leaf_starts}
 use Rattle.rings.specs.Rings.{code_for}
 
--- the last step of a code's path, where it has one
-abbrev pub LastStep : List ℕ → ℕ → Type 0
-LastStep code r = (root path : List ℕ) (b : ℕ) → IsCodeOf code root (path ++ b ∷ []) → r ≡ b
+-- whether the last step of a code's path, where it has one, is 1
+abbrev pub IsSecond : List ℕ → Bool → Type 0
+IsSecond code r = (root path : List ℕ) (b : ℕ) → IsCodeOf code root (path ++ b ∷ []) → r ≡ eqb b 1
 
 -- a part starts a whole number of its sizes from the front of the stretch
 start_whole : (M : ℕ) (path : List ℕ) → length path ≤ M → (q : ℕ) × (start_of M path ≡ q * 2 ^ (M - length path))
@@ -67,11 +70,20 @@ child_start M path b l h = ap (λ (n : ℕ). n / 2 ^ (M - suc (length path)) % 2
     whole = start_joined M path (b ∷ []) ∙ ap (λ (n : ℕ). n + start_of (M - length path) (b ∷ [])) (o.1 ∙ ap (λ (n : ℕ). o.0 * n) twice ∙ sym (mul_assoc o.0 2 (2 ^ (M - suc (length path)))))
         ∙ ap (λ (n : ℕ). o.0 * 2 * 2 ^ (M - suc (length path)) + n) own ∙ sym (add-mul (o.0 * 2) b (2 ^ (M - suc (length path))))
 
--- a cell, by where it starts
-pub start_step : {d : ℕ} {c : TreeCell} → CellOf d c → {start size : ℕ} → start ≡ start_of (greatest_depth d) c.path → size ≡ size_of (greatest_depth d) c.path → LastStep (code_for c) (start / size % 2)
-start_step {d} {c} g s_is z_is root path b x = rw (s_is, z_is, ← g.axes, one.0, one.1) (unfold size_of in ap (λ (n : ℕ). start_of (greatest_depth (length root)) (path ++ b ∷ []) / 2 ^ (greatest_depth (length root) - n) % 2) more
-    ∙ child_start (greatest_depth (length root)) path b small (omega (arith, more, x.good_path.depth)))
+-- the bit of a power
+bit_is : (n k : ℕ) → not (eqb (bit_and n (2 ^ k)) 0) ≡ eqb (n / 2 ^ k % 2) 1
+bit_is n k = rw (and_pow n k) (by (bit_at n k) (2 ^ k) (bit_at-lt n k) (pow_pos k))
   where
+    by : (x p : ℕ) → x < 2 → 0 < p → not (eqb (x * p) 0) ≡ eqb x 1
+    by x p l h = grind (arith, nat_tests)
+
+-- a cell, by where it starts
+pub start_second : {d : ℕ} {c : TreeCell} → CellOf d c → {start size : ℕ} → start ≡ start_of (greatest_depth d) c.path → size ≡ size_of (greatest_depth d) c.path → IsSecond (code_for c) (not (eqb (bit_and start size) 0))
+start_second {d} {c} g {start} {size} s_is z_is root path b x = rw z_power (bit_is start (greatest_depth d - length c.path)) ∙ ap (λ (n : ℕ). eqb n 1) step
+  where
+    z_power : size ≡ 2 ^ (greatest_depth d - length c.path)
+    z_power = unfold size_of in z_is
+
     one : (c.root ≡ root) × (c.path ≡ path ++ b ∷ [])
     one = one_path (code_of_cell g.good) x
 
@@ -81,16 +93,14 @@ start_step {d} {c} g s_is z_is root path b x = rw (s_is, z_is, ← g.axes, one.0
     small : b ≤ 1
     small = rw (get_or_at path b [] 0 (length path) refl) at (x.good_path.steps (length path) (omega (arith, more)))
 
+    step : start / 2 ^ (greatest_depth d - length c.path) % 2 ≡ b
+    step = rw (s_is, ← g.axes, one.0, one.1) (ap (λ (n : ℕ). start_of (greatest_depth (length root)) (path ++ b ∷ []) / 2 ^ (greatest_depth (length root) - n) % 2) more
+        ∙ child_start (greatest_depth (length root)) path b small (omega (arith, more, x.good_path.depth)))
+
 -- where the leaf after one starts: behind it, or at the front of the next root's stretch
 pub record NextStart (start size stretch r : ℕ) : Type 0 where
   pub behind : start + size < stretch → r ≡ start + size
   pub front : stretch ≤ start + size → r ≡ 0
-
-pub next_behind : {start size stretch : ℕ} → start + size < stretch → NextStart start size stretch (start + size)
-next_behind l = record { behind = λ h. refl; front = λ h. absurd (omega arith) }
-
-pub next_front : {start size stretch : ℕ} → stretch ≤ start + size → NextStart start size stretch 0
-next_front l = record { behind = λ h. absurd (omega arith); front = λ h. refl }
 
 module _ {mark : List ℕ} {width : ℕ} {sheet : List ℕ} {n : ℕ} (g : GoodSheet mark width sheet n) where
   abbrev M : ℕ

@@ -2,22 +2,25 @@
 // What a look tells stands in `is_matched`; the walk over leaves and facets knows only whether a facet passes.
 #![tactic(auto)]
 
-ghost use Rattle.std.specs.Prelude.{◌+◌, ◌^◌, ◌≤◌, ◌<◌};
+ghost use Rattle.std.specs.Prelude.{◌≡◌, ◌+◌, ◌^◌, ◌≤◌, ◌<◌};
+ghost use Rattle.dimension.specs.Sizes.{axes_of};
 ghost use Rattle.sheets.specs.Sheets.{sheet_mark, sample_width};
 ghost use Rattle.sheets.specs.Steps.{mark_of};
 ghost use Rattle.finding.specs.Opened.{Checked};
-ghost use Rattle.compatible.specs.Compatible.{yes_or_no, CompatibleIs};
+ghost use Rattle.compatible.specs.Compatible.{CompatibleIs};
+ghost use Rattle.compatible.specs.Forms.{compatible_answer};
 ghost use Rattle.compatible.specs.Looks.{LookReady, LookIs};
-ghost use Rattle.compatible.specs.Steps.{LastStep, NextStart};
+ghost use Rattle.compatible.specs.Steps.{IsSecond, NextStart};
 ghost use Rattle.compatible.specs.FacetLaws.{FacetReady, FacetIs};
 ghost use Rattle.compatible.specs.Walking.{LeafReady, LeafHolds, RecordReady, RecordHolds, SheetReady, SheetHolds};
 
-use bisection::DONE;
+use bisection::{DONE, Refused};
+use codes::Code;
 use dimension::Dim;
-use finding::{Kind, Spread, opened};
-use sheets::Edition;
+use finding::opened::{self, Opened};
+use finding::{Entry, Index, Kind, Sheet, Spread};
 
-// The answer: where a refused record begins; 1 for yes, 0 for no.
+// The answer for a C program: where a refused record begins; 1 for yes, 0 for no.
 #[repr(C)]
 #[derive(Clone, Copy)]
 pub struct CompatibleAnswer {
@@ -26,133 +29,102 @@ pub struct CompatibleAnswer {
     pub offset: usize,
 }
 
-// How many entries the index of a sheet has room for, and three numbers for each: 240 KiB of the stack.
-const ENTRIES: usize = 10240;
+impl From<Result<bool, Refused>> for CompatibleAnswer {
+    ghost from_gives = { λ answer form. form ≡ compatible_answer answer };
 
-const INDEX_ROOM: usize = 3 * ENTRIES;
+    fn from(answer: Result<bool, Refused>) -> CompatibleAnswer {
+        match answer {
+            Ok(yes) => CompatibleAnswer {
+                refusal: DONE,
+                compatible: u8::from(yes),
+                offset: 0,
+            },
+            Err(Refused { refusal, offset }) => CompatibleAnswer {
+                refusal: refusal.into(),
+                compatible: 0,
+                offset,
+            },
+        }
+    }
+}
+
+// How many entries the index of a sheet has: 240 KiB of the stack.
+const ENTRIES: usize = 10240;
 
 // Whether a facet passes, by one look at the cell across: the cell is present, a leaf or split; or its parent is a leaf, and its new vertex,
 // which stands at a place, is its newest one.
-fn is_matched(
-    edition: Edition,
-    sheet: &[u8],
-    dimension: u8,
-    index: &[u64],
-    spread: Spread,
-    code: &[u8],
-    place: usize,
-) -> bool
-    requires { LookReady (mark_of edition) edition.width sheet.now dimension index.now spread code.now }
-    ensures { LookIs (mark_of edition) edition.width sheet.now dimension code.now place result }
+fn is_matched(sheet: Sheet, index: Index, code: &[u8], place: usize) -> bool
+    requires { LookReady (mark_of sheet.edition) sheet.edition.width sheet.bytes.now (axes_of sheet.dim) index.entries.now index.spread code.now }
+    ensures { LookIs (mark_of sheet.entry.edition) sheet.entry.edition.width sheet.entry.bytes.now (axes_of sheet.entry.dim) code.now place result }
 {
-    let cell = positions::position_of(code);
-    let found = finding::find(edition, sheet, dimension, index, spread, cell);
-    let kind = found.kind;
-    match kind {
-        Kind::Leaf => true,
-        Kind::Split => true,
+    let found = sheet.find(index, positions::position_of(&Code::known(code)));
+    match found.kind {
+        Kind::Leaf | Kind::Split => true,
         Kind::Inside => {
-            let depth = codes::code_depth(code);
-            if found.depth + 1 != depth {
-                return false;
-            }
-            let newest = Dim::checked(dimension).split_place(found.depth);
-            place == newest
+            found.sought.depth + 1 == codes::code_depth(code)
+                && place == sheet.dim.split_place(found.sought.depth)
         }
     }
 }
 
 // Whether one facet of a leaf passes: it lies in a face of the cube, or the cell across is matched.
-fn facet_holds(
-    edition: Edition,
-    sheet: &[u8],
-    dimension: u8,
-    index: &[u64],
-    spread: Spread,
-    code: &[u8],
-    facet: u8,
-) -> bool
-    requires { FacetReady (mark_of edition) edition.width sheet.now dimension index.now spread code.now facet }
-    ensures { FacetIs (mark_of edition) edition.width sheet.now dimension code.now facet result }
+fn facet_holds(sheet: Sheet, index: Index, code: &[u8], facet: u8) -> bool
+    requires { FacetReady (mark_of sheet.edition) sheet.edition.width sheet.bytes.now (axes_of sheet.dim) index.entries.now index.spread code.now facet }
+    ensures { FacetIs (mark_of sheet.entry.edition) sheet.entry.edition.width sheet.entry.bytes.now (axes_of sheet.entry.dim) code.now facet result }
 {
     let mut across = [0u8; Dim::LONGEST_CODE];
-    let crossed = crossing::cross_checked(code, facet, &mut across);
-    if crossed.refusal != DONE {
+    let Ok(crossed) = crossing::cross_checked(&Code::known(code), facet, &mut across) else {
         return true;
-    }
+    };
     is_matched(
-        edition,
         sheet,
-        dimension,
         index,
-        spread,
         &across[..crossed.length],
-        common::size(crossed.place),
+        usize::from(crossed.place),
     )
 }
 
-// Whether each facet of a leaf passes that is to be looked at: its code, and the last step of its path. Looks from child 0 of each cell
-// see all that is seen from child 1, and none is needed at facet 0.
-fn leaf_holds(
-    edition: Edition,
-    sheet: &[u8],
-    dimension: u8,
-    index: &[u64],
-    spread: Spread,
-    code: &[u8],
-    step: u64,
-) -> bool
-    requires { (LeafReady (mark_of edition) edition.width sheet.now dimension index.now spread code.now) × (dimension ≤ 4) × LastStep code.now step }
-    ensures { LeafHolds (mark_of edition) edition.width sheet.now dimension code.now result }
+// Whether each facet of a leaf passes that is to be looked at: its code, and whether it is child 1 of its parent. Looks from child 0 of each
+// cell see all that is seen from child 1, and none is needed at facet 0.
+fn leaf_holds(sheet: Sheet, index: Index, code: &[u8], second: bool) -> bool
+    requires { (LeafReady (mark_of sheet.edition) sheet.edition.width sheet.bytes.now (axes_of sheet.dim) index.entries.now index.spread code.now) × IsSecond code.now second }
+    ensures { LeafHolds (mark_of sheet.entry.edition) sheet.entry.edition.width sheet.entry.bytes.now (axes_of sheet.entry.dim) code.now result }
 {
-    if step == 1 {
+    if second {
         return true;
     }
-    let mut facet: u8 = 1;
-    while facet <= dimension {
-        if !facet_holds(edition, sheet, dimension, index, spread, code, facet) {
+    for facet in 1..=sheet.dim.axes() as u8 {
+        if !facet_holds(sheet, index, code, facet) {
             return false;
         }
-        facet += 1;
     }
     true
 }
 
-// What is said of a record: whether those facets of its leaf pass, how many bytes it has, and how long its leaf's part of the line is.
+// A record that was read: how many bytes it has, and how long its leaf's part of the line is.
 #[derive(Clone, Copy)]
-pub struct Judged {
-    pub holds: bool,
+pub struct Passed {
     pub length: usize,
     pub size: u64,
 }
 
-// The same of the leaf of the record at an offset, from where it starts on its root's stretch: child 0 has the first half of its parent's
-// part, child 1 the second.
-fn record_holds(
-    edition: Edition,
-    sheet: &[u8],
-    dimension: u8,
-    index: &[u64],
-    spread: Spread,
-    offset: usize,
-    start: u64,
-) -> Judged
-    requires { RecordReady (mark_of edition) edition.width sheet.now dimension index.now spread offset start }
-    ensures { RecordHolds (mark_of edition) edition.width sheet.now dimension offset result }
+// The record at an offset, if those facets of its leaf pass, by where the leaf starts on its root's stretch: child 0 has the first half of
+// its parent's part, child 1 the second, so its size's bit is set there.
+fn record_holds(sheet: Sheet, index: Index, offset: usize, start: u64) -> Option<Passed>
+    requires { RecordReady (mark_of sheet.edition) sheet.edition.width sheet.bytes.now (axes_of sheet.dim) index.entries.now index.spread offset start }
+    ensures { RecordHolds (mark_of sheet.entry.edition) sheet.entry.edition.width sheet.entry.bytes.now (axes_of sheet.entry.dim) offset result }
 {
+    let depth = sheet.depth_at(offset);
+    let size = sheet.part(depth);
     let at = offset + sheets::MARK_LENGTH;
-    let depth = codes::code_depth(&sheet[at..]);
-    let dim = Dim::checked(dimension);
-    let end = at + dim.code_length(depth);
-    let size = positions::power(dim.greatest_depth() - depth);
-    let step = start / size % 2;
-    let code = &sheet[at..end];
-    let holds = leaf_holds(edition, sheet, dimension, index, spread, code, step);
-    let length = finding::record_length(edition, dimension, depth);
-    Judged {
-        holds,
-        length,
-        size,
+    let code = &sheet.bytes[at..at + sheet.dim.code_length(depth)];
+    if leaf_holds(sheet, index, code, start & size != 0) {
+        Some(Passed {
+            length: sheet.record_length(depth),
+            size,
+        })
+    } else {
+        None
     }
 }
 
@@ -162,69 +134,48 @@ fn next_start(start: u64, size: u64, stretch: u64) -> u64
     ensures { NextStart start size stretch result }
 {
     let end = start + size;
-    if end < stretch {
-        return end;
-    }
-    0
+    if end < stretch { end } else { 0 }
 }
 
 // The same of each leaf. The index is kept about the leaf at hand.
-fn all_hold(
-    edition: Edition,
-    sheet: &[u8],
-    dimension: u8,
-    records: usize,
-    index: &mut [u64],
-    spread: Spread,
-) -> bool
-    requires { SheetReady (mark_of edition) edition.width sheet.now dimension records index.old spread }
-    ensures { SheetHolds (mark_of edition) edition.width sheet.now result }
+fn all_hold(sheet: Sheet, records: usize, entries: &mut [Entry], spread: Spread) -> bool
+    requires { SheetReady (mark_of sheet.edition) sheet.edition.width sheet.bytes.now (axes_of sheet.dim) records entries.old spread }
+    ensures { SheetHolds (mark_of sheet.entry.edition) sheet.entry.edition.width sheet.entry.bytes.now result }
 {
-    let stretch = positions::power(Dim::checked(dimension).greatest_depth());
-    let mut number: usize = 0;
+    let stretch = sheet.stretch();
     let mut offset: usize = 0;
     let mut start: u64 = 0;
-    let mut about = spread;
-    while number < records {
-        about = finding::index_about(edition, sheet, dimension, records, index, about, number);
-        let judged = record_holds(edition, sheet, dimension, index, about, offset, start);
-        if !judged.holds {
+    let mut spread = spread;
+    for number in 0..records {
+        spread = sheet.index_about(records, entries, spread, number);
+        let Some(passed) = record_holds(sheet, Index { entries, spread }, offset, start) else {
             return false;
-        }
-        number += 1;
-        offset += judged.length;
-        start = next_start(start, judged.size, stretch);
+        };
+        offset += passed.length;
+        start = next_start(start, passed.size, stretch);
     }
     true
 }
 
 // The same of a sheet of document 01's edition, with an index of its own.
-fn leaves_compatible(sheet: &[u8], dimension: u8, records: usize) -> bool
-    requires { Checked sheet.now dimension records }
-    ensures { SheetHolds sheet_mark sample_width sheet.now result }
+fn leaves_compatible(bytes: &[u8], opened: Opened) -> bool
+    requires { Checked bytes.now (axes_of opened.dim) opened.records }
+    ensures { SheetHolds sheet_mark sample_width bytes.now result }
 {
-    let mut index = [0u64; INDEX_ROOM];
-    let edition = sheets::first_edition();
-    let spread = finding::index_of(edition, sheet, dimension, records, &mut index);
-    all_hold(edition, sheet, dimension, records, &mut index, spread)
+    let sheet = Sheet {
+        edition: sheets::first_edition(),
+        bytes,
+        dim: opened.dim,
+    };
+    let mut entries = [Entry::FRONT; ENTRIES];
+    let spread = sheet.index_of(opened.records, &mut entries);
+    all_hold(sheet, opened.records, &mut entries, spread)
 }
 
 // The compatibility test.
-pub fn compatible(sheet: &[u8]) -> CompatibleAnswer
-    ensures { CompatibleIs sheet.now result }
+pub fn compatible(sheet: &[u8]) -> Result<bool, Refused>
+    ensures { CompatibleIs sheet.now (compatible_answer result) }
 {
-    let opened = opened::check_sheet(sheet);
-    if opened.refusal != DONE {
-        return CompatibleAnswer {
-            refusal: opened.refusal,
-            compatible: 0,
-            offset: opened.offset,
-        };
-    }
-    let yes = leaves_compatible(sheet, opened.dimension, opened.records);
-    CompatibleAnswer {
-        refusal: DONE,
-        compatible: yes as u8,
-        offset: 0,
-    }
+    let opened = opened::check_sheet(sheet)?;
+    Ok(leaves_compatible(sheet, opened))
 }

@@ -1,7 +1,7 @@
 -- The low sides of a box as one point: the orthants are their binary digits, read four at a time.
 use Rattle.std.specs.Prelude.{◌≡◌, Bool, true, false, List, [], ◌∷◌, drop}
 use Rattle.std.proofs.Math.Path.{refl, ap}
-use Rattle.std.proofs.Common.{sym, ◌∙◌, add-zero, zero-add, add-suc, suc-add, mul_comm, mul_left_comm, one-mul, div-add-mod', mod-lt, length-drop, pow_pos, pow_mono, shl_exact, get_or-drop}
+use Rattle.std.proofs.Common.{sym, ◌∙◌, add-zero, zero-add, add-suc, suc-add, mul_comm, mul_left_comm, div-add-mod', mod-lt, length-drop, pow_pos, pow_mono, get_or-drop}
 use Rattle.std.proofs.Math.Bool.{cond}
 use Prim.Native.Nat.{ℕ, zero, suc, ◌+◌, ◌-◌, ◌*◌, ◌/◌, ◌%◌, ◌^◌, ◌≤◌, ◌<◌}
 use native.Mathlib.Omega.{arith}
@@ -24,49 +24,12 @@ lows_in os = in_word (λ a. box_low a 0 os)
 
 -- 1 on each axis that the orthant is high on
 unfoldable pub spread_of : ℕ → ℕ
+unfolding in_word high
 spread_of o = in_word (λ a. cond (high o a) 1 0)
 
 -- a point twice with four digits more, those of four orthants in a word
 unfoldable pub four_more : ℕ → ℕ → ℕ
 four_more p w = 2 * (2 * (2 * (2 * p + spread_of (w % 16)) + spread_of (w / 2 ^ 8 % 16)) + spread_of (w / 2 ^ 16 % 16)) + spread_of (w / 2 ^ 24 % 16)
-
--- an orthant of four bits that is none of the others is high on every axis
-abbrev NoneOf : ℕ → ℕ → Type 0
-NoneOf zero o = Unit
-NoneOf (suc n) o = NoneOf n o × (o ≡ n → ⊥)
-
-at_last : (n o : ℕ) → NoneOf n o → n ≤ o
-at_last zero o f = omega arith
-at_last (suc n) o f = omega (arith, at_last n o f.0, f.1)
-
-pub spread_last : {o : ℕ} → o < 16 → NoneOf 15 o → ones ≡ spread_of o
-unfolding spread_of in_word high
-spread_last {o} h f = let e : o ≡ 15 = omega (arith, at_last 15 o f) in rw e refl
-
--- as the code goes on from digit to digit: each step fits where the last one does
-module _ (p w : ℕ) (h : four_more p w < 2 ^ 64) where
-  pub more_first : 2 * p + spread_of (w % 16) < 2 ^ 64
-  unfolding four_more
-  more_first = omega (arith, h)
-
-  module _ {q : ℕ} (e : q ≡ 2 * p + spread_of (w % 16)) where
-    pub more_second : 2 * q + spread_of (w / 2 ^ 8 % 16) < 2 ^ 64
-    unfolding four_more
-    more_second = omega (arith, h, e)
-
-    module _ {r : ℕ} (f : r ≡ 2 * q + spread_of (w / 2 ^ 8 % 16)) where
-      pub more_third : 2 * r + spread_of (w / 2 ^ 16 % 16) < 2 ^ 64
-      unfolding four_more
-      more_third = omega (arith, h, e, f)
-
-      module _ {s : ℕ} (g : s ≡ 2 * r + spread_of (w / 2 ^ 16 % 16)) where
-        pub more_fourth : 2 * s + spread_of (w / 2 ^ 24 % 16) < 2 ^ 64
-        unfolding four_more
-        more_fourth = omega (arith, h, e, f, g)
-
-        pub more_all : {t : ℕ} → t ≡ 2 * s + spread_of (w / 2 ^ 24 % 16) → t ≡ four_more p w
-        unfolding four_more
-        more_all k = omega (arith, e, f, g, k)
 
 -- the box lies in the cube
 pub low_inside : (a M : ℕ) (os : List ℕ) → box_low a M os + side_after (M + length os) ≤ side_after M
@@ -142,86 +105,75 @@ digits_low a os few = rw (digits_box a os, mul_comm (box_at a os) (side_after (l
 unfoldable pub lowest_of : ℕ → ℕ
 lowest_of n = (2 ^ n - 1) * ones
 
-pub lowest_made : (n : ℕ) → n ≤ 15 → (1 * 2 ^ n % 2 ^ 64 - 1) * ones ≡ lowest_of n
-unfolding lowest_of
-lowest_made n h = ap (λ (x : ℕ). (x - 1) * ones) (shl_exact {a = 1} 1 n 64 (omega arith) (omega arith) ∙ one-mul (2 ^ n))
-
-pub lowest_some : (n : ℕ) → n ≤ 15 → 1 ≤ 1 * 2 ^ n % 2 ^ 64
-lowest_some n h = rw (shl_exact {a = 1} 1 n 64 (omega arith) (omega arith) ∙ one-mul (2 ^ n)) (pow_pos n)
-
-pub lowest_fits : (n : ℕ) → n ≤ 15 → (1 * 2 ^ n % 2 ^ 64 - 1) * ones < 2 ^ 64
-unfolding lowest_of
-lowest_fits n h = rw (lowest_made n h) (omega (arith, pow_mono {i = n} {j = 15} h))
-
 -- ---- the bytes read
 
 -- byte m of those that are read, four at a time from `all` bytes before the end on; a code that has fewer is read from its front
 unfoldable pub window : ℕ → List ℕ → ℕ → ℕ
 window all code m = get_or code (length code - (all - (m - m % 4)) + m % 4) 0 % 16
 
--- the walk: all but the last `back` are read
-pub record LowsSoFar (all : ℕ) (code : List ℕ) (back w : ℕ) : Type 0 where
+-- the walk: the first i of them are read
+pub record LowsSoFar (all : ℕ) (code : List ℕ) (i w : ℕ) : Type 0 where
   pub most : all ≤ 16
-  pub fours : (all % 4 ≡ 0) × (back % 4 ≡ 0)
-  pub left : back ≤ all
-  pub is : w ≡ in_word (digits (window all code) (all - back))
+  pub fours : (all % 4 ≡ 0) × (i % 4 ≡ 0)
+  pub some : i ≤ all
+  pub is : w ≡ in_word (digits (window all code) i)
 
-pub lows_none : (all : ℕ) (code : List ℕ) → all ≤ 16 → all % 4 ≡ 0 → LowsSoFar all code all 0
+pub lows_none : (all : ℕ) (code : List ℕ) → all ≤ 16 → all % 4 ≡ 0 → LowsSoFar all code 0 0
 unfolding in_word digits
-lows_none all code h e = record { most = h; fours = (e, e); left = omega arith; is = let none : all - all ≡ 0 = omega arith in rw none refl }
+lows_none all code h e = record { most = h; fours = (e, refl); some = omega arith; is = refl }
 
-module _ {all : ℕ} {code : List ℕ} {back w : ℕ} (t : LowsSoFar all code back w) where
+module _ {all : ℕ} {code : List ℕ} {i w : ℕ} (t : LowsSoFar all code i w) where
   -- four more
-  module _ (h : 0 < back) (small : (i : ℕ) → get_or code i 0 < 256) {v : ℕ} (e : v ≡ word_of (four_from code (length code - back))) where
-    read : (r : ℕ) → r < 4 → window all code (all - back + r) ≡ get_or code (length code - back + r) 0 % 16
+  module _ (h : i < all) (small : (j : ℕ) → get_or code j 0 < 256) {v : ℕ} (e : v ≡ word_of (four_from code (length code - (all - i)))) where
+    read : (r : ℕ) → r < 4 → window all code (i + r) ≡ get_or code (length code - (all - i) + r) 0 % 16
     unfolding window
     read r l = rw (low, start) refl
       where
-        low : (all - back + r) % 4 ≡ r
-        low = omega (arith, t.fours, t.left)
+        low : (i + r) % 4 ≡ r
+        low = omega (arith, t.fours)
 
-        start : all - (all - back + r - r) ≡ back
-        start = omega (arith, t.left)
+        start : i + r - r ≡ i
+        start = omega arith
 
-    four_digits : four_more w v ≡ in_word (digits (window all code) (all - (back - 4)))
+    four_digits : four_more w v ≡ in_word (digits (window all code) (i + 4))
     unfolding four_more spread_of word_of
     four_digits = rw (o0, o1, o2, o3, t.is)
         (omega (
           arith,
-          digit (all - back) (all - back + 1) 0 (omega arith) (omega arith) (omega arith),
-          digit (all - back + 1) (all - back + 2) 1 refl (omega arith) (omega arith),
-          digit (all - back + 2) (all - back + 3) 2 refl (omega arith) (omega arith),
-          digit (all - back + 3) (all - (back - 4)) 3 refl (omega arith) (omega (arith, t.fours, t.left)),
+          digit i (i + 1) 0 (omega arith) (omega arith) (omega arith),
+          digit (i + 1) (i + 2) 1 refl (omega arith) (omega arith),
+          digit (i + 2) (i + 3) 2 refl (omega arith) (omega arith),
+          digit (i + 3) (i + 4) 3 refl (omega arith) (omega arith),
         ))
       where
-        digit : (n m r : ℕ) → n ≡ all - back + r → r < 4 → m ≡ suc n
-            → 2 * in_word (digits (window all code) n) + in_word (λ a. cond (high (get_or code (length code - back + r) 0 % 16) a) 1 0) ≡ in_word (digits (window all code) m)
+        digit : (n m r : ℕ) → n ≡ i + r → r < 4 → m ≡ suc n
+            → 2 * in_word (digits (window all code) n) + in_word (λ a. cond (high (get_or code (length code - (all - i) + r) 0 % 16) a) 1 0) ≡ in_word (digits (window all code) m)
         digit n m r q l f = rw (f, ← read r l, ← q) (unfold in_word digits in omega arith)
 
-        o0 : v % 16 ≡ get_or code (length code - back + 0) 0 % 16
-        o0 = let z : length code - back + 0 ≡ length code - back = omega arith in rw z (omega (arith, e))
+        o0 : v % 16 ≡ get_or code (length code - (all - i) + 0) 0 % 16
+        o0 = let z : length code - (all - i) + 0 ≡ length code - (all - i) = omega arith in rw z (omega (arith, e))
 
-        o1 : v / 2 ^ 8 % 16 ≡ get_or code (length code - back + 1) 0 % 16
-        o1 = omega (arith, e, small (length code - back))
+        o1 : v / 2 ^ 8 % 16 ≡ get_or code (length code - (all - i) + 1) 0 % 16
+        o1 = omega (arith, e, small (length code - (all - i)))
 
-        o2 : v / 2 ^ 16 % 16 ≡ get_or code (length code - back + 2) 0 % 16
-        o2 = omega (arith, e, small (length code - back), small (length code - back + 1))
+        o2 : v / 2 ^ 16 % 16 ≡ get_or code (length code - (all - i) + 2) 0 % 16
+        o2 = omega (arith, e, small (length code - (all - i)), small (length code - (all - i) + 1))
 
-        o3 : v / 2 ^ 24 % 16 ≡ get_or code (length code - back + 3) 0 % 16
-        o3 = omega (arith, e, small (length code - back), small (length code - back + 1), small (length code - back + 2))
+        o3 : v / 2 ^ 24 % 16 ≡ get_or code (length code - (all - i) + 3) 0 % 16
+        o3 = omega (arith, e, small (length code - (all - i)), small (length code - (all - i) + 1), small (length code - (all - i) + 2))
 
     pub lows_fit : four_more w v < 2 ^ 64
-    lows_fit = rw four_digits (in_small (digits (window all code) (all - (back - 4)))
-        (λ a l u. lt_of_lt_of_le (digits_small (window all code) (all - (back - 4)) a) (pow_mono {i = all - (back - 4)} {j = 16} (omega (arith, t.most)))))
+    lows_fit = rw four_digits (in_small (digits (window all code) (i + 4))
+        (λ a l u. lt_of_lt_of_le (digits_small (window all code) (i + 4) a) (pow_mono {i = i + 4} {j = 16} (omega (arith, t.most, t.fours)))))
 
-    pub lows_next : {r : ℕ} → r ≡ four_more w v → LowsSoFar all code (back - 4) r
-    lows_next f = record { most = t.most; fours = (t.fours.0, omega (arith, t.fours)); left = omega (arith, t.left); is = f ∙ four_digits }
+    pub lows_next : {r : ℕ} → r ≡ four_more w v → LowsSoFar all code (i + 4) r
+    lows_next f = record { most = t.most; fours = (t.fours.0, omega (arith, t.fours)); some = omega (arith, t.fours); is = f ∙ four_digits }
 
 pub lows_boxes : {code : List ℕ} {d side : ℕ} → OrthantsReady code d side → (2 ≤ length code) × (d ≤ length code - 2) × (length code - 2 - d ≤ 15)
 lows_boxes r = (omega (arith, r.room), omega (arith, r.room), omega (arith, r.most, halvings_few))
 
 -- all are read: what stands before the orthants is masked out
-module _ {all : ℕ} {code : List ℕ} {d side back w : ℕ} (r : OrthantsReady code d side) (room : halvings ≤ all) (t : LowsSoFar all code back w) (none : back ≤ 0) where
+module _ {all : ℕ} {code : List ℕ} {d side i w : ℕ} (r : OrthantsReady code d side) (room : halvings ≤ all) (t : LowsSoFar all code i w) (end : all ≤ i) where
   abbrev os : List ℕ
   os = drop (2 + d) code
 
@@ -240,7 +192,7 @@ module _ {all : ℕ} {code : List ℕ} {d side back w : ℕ} (r : OrthantsReady 
 
   masked : bit_and w (lowest_of (length code - 2 - d)) ≡ in_word (digits (λ t. get_or (drop (2 + d) code) t 0) (length code - 2 - d))
   unfolding lowest_of
-  masked = let whole : all - back ≡ all = omega arith in rw (t.is, whole) (in_low (digits (window all code) (all)) (length code - 2 - d) (omega (arith, few, room, t.most))
+  masked = let whole : i ≡ all = omega (arith, t.some) in rw (t.is, whole) (in_low (digits (window all code) (all)) (length code - 2 - d) (omega (arith, few, room, t.most))
       (λ a l u. lt_of_lt_of_le (digits_small (window all code) (all) a) (pow_mono {i = all} {j = 16} (omega (arith, t.most))))
       ∙ in_same (λ a. digits (window all code) (all) a % 2 ^ (length code - 2 - d)) (digits (λ t. get_or (drop (2 + d) code) t 0) (length code - 2 - d)) each)
     where

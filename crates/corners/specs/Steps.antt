@@ -1,12 +1,11 @@
 -- Signed steps along an axis, as the code holds them in an i32, and what a vertex has above its box's low side: the near side, or one step
 -- from it.
-use Rattle.std.specs.Prelude.{◌≡◌, refl, Bool, true, false, cond, not, ℕ, zero, suc, ◌+◌, ◌-◌, ◌/◌, ◌%◌, ◌^◌, ◌≤◌, ◌<◌, T, leb, ℤ, pos, neg_ℤ, nat_abs, ◌+ℤ◌, ◌-ℤ◌}
-use Rattle.std.proofs.Common.{sym, ap, ◌∙◌, arith, zero-add, le-ltb, le-leb, SFits, Fits, to_z, of_z}
+use Rattle.std.specs.Prelude.{◌≡◌, refl, Bool, true, false, cond, not, ℕ, zero, suc, ◌+◌, ◌-◌, ◌/◌, ◌%◌, ◌^◌, ◌≤◌, ◌<◌, leb, ℤ, pos, neg_ℤ, ◌+ℤ◌, ◌-ℤ◌}
+use Rattle.std.proofs.Common.{ap, ◌∙◌, arith, zero-add, le-ltb, le-leb, SFits, to_z, of_z}
 use Rattle.std.proofs.Math.IntN.{+ℤ_idl}
-use Rattle.std.specs.Int.Signed.{non_neg}
 use Rattle.std.proofs.lemmas.Bool.{lt-leb}
 use Rattle.std.proofs.Math.Decide.{dec_le}
-use mir.Syntax.{w32, w64}
+use mir.Syntax.{w32}
 use Rattle.std.proofs.lemmas.Int.{to_z-of_z, to_z_pos}
 use Rattle.bisection.specs.Theorems.Axis.{closed}
 
@@ -32,43 +31,11 @@ down_fits : (s : ℕ) → s < 2 ^ 16 → SFits w32 (neg_ℤ (pos s))
 down_fits zero h = record { sfits = omega arith }
 down_fits (suc s) h = record { sfits = omega arith }
 
-module _ (s : ℕ) (h : s < 2 ^ 16) where
-  down : pos 0 -ℤ to_z w32 s ≡ neg_ℤ (pos s)
-  down = rw (step_size s h) (+ℤ_idl (neg_ℤ (pos s)))
-
-  pub step_down_fits : SFits w32 (pos 0 -ℤ to_z w32 s)
-  step_down_fits = rw down (down_fits s h)
-
-  pub step_down : (m : Bool) → m ≡ true → to_z w32 (of_z w32 (pos 0 -ℤ to_z w32 s)) ≡ signed_step s m
-  unfolding signed_step
-  step_down m e = rw (down, e) (to_z-of_z w32 (neg_ℤ (pos s)) (down_fits s h))
-
-  pub step_up : (m : Bool) → m ≡ false → to_z w32 s ≡ signed_step s m
-  unfolding signed_step
-  step_up m e = rw e (step_size s h)
-
 -- a step as an i32 holds it
 step_held : (s : ℕ) (m : Bool) → s < 2 ^ 16 → (step : ℤ) → step ≡ signed_step s m → to_z w32 (of_z w32 step) ≡ signed_step s m
 unfolding signed_step
 step_held s true h step e = rw e (to_z-of_z w32 (neg_ℤ (pos s)) (down_fits s h))
 step_held s false h step e = rw e (step_size s h)
-
--- a coordinate moved by a step
-module _ (x : ℕ) (step : ℤ) (h : x < 2 ^ 16) (f : SFits w32 step) (m : MovesTo x step) where
-  sum : to_z w32 x +ℤ to_z w32 (of_z w32 step) ≡ pos m.to
-  sum = rw (step_size x h, to_z-of_z w32 step f) m.is
-
-  back : to_z w32 (of_z w32 (to_z w32 x +ℤ to_z w32 (of_z w32 step))) ≡ pos m.to
-  back = rw sum (step_size m.to m.small)
-
-  pub moved_fits : SFits w32 (to_z w32 x +ℤ to_z w32 (of_z w32 step))
-  moved_fits = rw sum (record { sfits = omega (arith, m.small) })
-
-  pub moved_casts : T (non_neg (to_z w32 (of_z w32 (to_z w32 x +ℤ to_z w32 (of_z w32 step))))) × Fits w64 (nat_abs (to_z w32 (of_z w32 (to_z w32 x +ℤ to_z w32 (of_z w32 step)))))
-  moved_casts = rw back (tt, record { fits = omega (arith, m.small) })
-
-  pub moved_value : pos (nat_abs (to_z w32 (of_z w32 (to_z w32 x +ℤ to_z w32 (of_z w32 step))))) ≡ pos x +ℤ step
-  moved_value = rw back (sym m.is)
 
 -- a whole number less a smaller one
 pos_sub : (x s : ℕ) → s ≤ x → pos x -ℤ pos s ≡ pos (x - s)
@@ -99,9 +66,6 @@ module _ (s r : ℕ) (m : Bool) (h : r ≤ s) (small : s < 2 ^ 16) {x : ℕ} (e 
   step_lands g = pos_same (g ∙ to_step)
 
 -- as the code picks it
-pub picks : (m n : Bool) {a b c x y : ℕ} → m ≡ n → a ≡ x → b ≡ y → c ≡ cond m a b → c ≡ cond n x y
-picks m n e f g h = rw (h, e, f, g) refl
-
 pub rise_picked : (s r : ℕ) (m : Bool) (t j : ℕ) {far back x : ℕ} → far ≡ r → back ≡ s - r → x ≡ cond m (cond (leb j t) s back) (cond (leb j t) 0 far) → x ≡ rise_by s r m t j
 unfolding rise_by
 rise_picked s r m t j e f g = rw (g, e, f) (go m (leb j t))

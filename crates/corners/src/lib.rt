@@ -5,7 +5,7 @@
 
 ghost use Rattle.std.specs.Prelude.{◌≡◌, cond, ◌+◌, ◌-◌, ◌*◌, ◌^◌, ◌≤◌, ◌<◌, leb, pos, ◌+ℤ◌, length, drop};
 ghost use Rattle.common.specs.Putting.{Puts};
-ghost use Rattle.dimension.specs.Sizes.{box_side};
+ghost use Rattle.dimension.specs.Sizes.{box_side, points_length};
 ghost use Rattle.bisection.specs.Codes.{axis, minus, dimension_of, depth_of, orthants_of};
 ghost use Rattle.bisection.specs.Refusals.{done, code_refusal};
 ghost use Rattle.entries.specs.Words.{word_of, four_from};
@@ -13,21 +13,20 @@ ghost use Rattle.corners.specs.PointWords.{point_word, in_word, on_axis, coordin
 ghost use Rattle.corners.specs.Lows.{spread_of, four_more, lowest_of, lows_in, OrthantsReady};
 ghost use Rattle.corners.specs.Steps.{signed_step, MovesTo};
 ghost use Rattle.corners.specs.Vertices.{VertexReady, VertexOf, vertex_in};
-ghost use Rattle.corners.specs.Drawing.{CellReady, CellWritten};
+ghost use Rattle.corners.specs.Drawing.{CellWritten};
 
 use dimension::Dim;
+use entries::code::Code;
 use entries::{check, words};
 
 // A step by plus or minus so much.
+#[tactic(auto, unfolding(crate::specs::Steps::signed_step))]
 fn step_of(reach: u64, minus: bool) -> i32
     requires { reach < 65536 }
     ensures { result ≡ signed_step reach minus }
 {
     let s = reach as i32;
-    if minus {
-        return -s;
-    }
-    s
+    if minus { -s } else { s }
 }
 
 // A coordinate moved by a signed step.
@@ -40,6 +39,7 @@ fn moved(x: u64, step: i32) -> u64
 }
 
 // The point with 1 on each axis that the orthant is high on, and 0 on the others. A table and no branch.
+#[tactic(auto, unfolding(crate::specs::Lows::spread_of))]
 fn spread(orthant: u64) -> u64
     requires { orthant < 16 }
     ensures { result ≡ spread_of orthant }
@@ -70,7 +70,7 @@ fn four_back(code: &[u8], back: usize) -> u64
     ensures { result ≡ word_of (four_from code.now (length code.now - back)) }
 {
     let n = code.len();
-    words::word_at(code, n - check::lower(back, n)) as u64
+    u64::from(words::word_at(code, n - back.min(n)))
 }
 
 // A point twice, and 1 more on each axis that the orthant is high on: one binary digit more of each coordinate.
@@ -82,6 +82,7 @@ fn digit_more(point: u64, orthant: u64) -> u64
 }
 
 // Four digits more.
+#[tactic(auto, unfolding(crate::specs::Lows::four_more))]
 fn four_more(point: u64, orthants: u64) -> u64
     requires { four_more point orthants < 2 ^ 64 }
     ensures { result ≡ four_more point orthants }
@@ -99,6 +100,7 @@ const BACK: usize = (Dim::HALVINGS + 3) / 4 * 4;
 const ONES: u64 = 0x0001_0001_0001_0001;
 
 // The mask of the lowest n binary digits of each coordinate.
+#[tactic(auto, unfolding(crate::specs::Lows::lowest_of))]
 fn lowest(n: usize) -> u64
     requires { n ≤ 15 }
     ensures { result ≡ lowest_of n }
@@ -112,11 +114,9 @@ fn low_sides(code: &[u8], d: usize, side: u64) -> u64
     requires { OrthantsReady code.now d side }
     ensures { result ≡ lows_in (drop (2 + d) code.now) }
 {
-    let mut digits: u64 = 0;
-    let mut back = BACK;
-    while 0 < back {
-        digits = four_more(digits, four_back(code, back));
-        back -= 4;
+    let mut digits = 0;
+    for i in (0..BACK).step_by(4) {
+        digits = four_more(digits, four_back(code, BACK - i));
     }
     (digits & lowest(code.len() - 2 - d)) * side
 }
@@ -138,7 +138,7 @@ fn on_axis(x: u64, e: u8) -> u64
     requires { (x < 65536) × (axis e ≤ 4) × (axis e ≡ 0 → x ≡ 0) }
     ensures { result ≡ in_word (on_axis (axis e) x) }
 {
-    x << (16 * ((common::size(entries::axis_of(e)) + 3) % 4))
+    x << (16 * ((usize::from(entries::axis_of(e)) + 3) % 4))
 }
 
 // Vertex j of the box with these low sides and this side, the entries and the split place, as a point's word. A signed step goes to the
@@ -151,75 +151,68 @@ fn vertex_at(lows: u64, side: u64, entries: u32, split: usize, j: usize) -> u64
     let far = moved(0, step_of(reach, false));
     let back = moved(side, step_of(reach, true));
     let mut point = lows;
-    let mut t: usize = 0;
-    while t < 4 {
+    for t in 0..4 {
         let e = words::byte_at(entries, t);
-        point = point + on_axis(rise(side, far, back, e, t, j), e);
-        t += 1;
+        point += on_axis(rise(side, far, back, e, t, j), e);
     }
     point
 }
 
-// The side of the box of a code that passes, which has d axes.
-pub fn side_of(code: &[u8], d: usize) -> u64
-    requires { (code_refusal code.now ≡ done) × (d ≡ dimension_of code.now) }
+// The side of the box of a code.
+pub fn side_of(code: &Code) -> u64
     ensures { result ≡ box_side (dimension_of code.now) (depth_of code.now) }
 {
-    (Dim::CUBE_SIDE as u64) >> (code.len() - 2 - d)
+    u64::from(Dim::CUBE_SIDE) >> (code.bytes().len() - 2 - code.axes())
 }
 
-// The low sides of the box of a code that passes, as a point's word.
-pub fn lows_of(code: &[u8]) -> u64
-    requires { code_refusal code.now ≡ done }
+// The low sides of the box of a code, as a point's word.
+pub fn lows_of(code: &Code) -> u64
     ensures { result ≡ lows_in (orthants_of code.now) }
 {
-    let code = &*code; // lent on anew, it comes in registers
-    let d = check::axes_of(code);
-    low_sides(code, d, side_of(code, d))
+    low_sides(code.bytes(), code.axes(), side_of(code))
 }
 
-// Vertex j of a code that passes, as a point's word, with the low sides of its box.
-pub fn vertex(code: &[u8], lows: u64, j: usize) -> u64
-    requires { (code_refusal code.now ≡ done) × (lows ≡ lows_in (orthants_of code.now)) × (j ≤ dimension_of code.now) }
+// Vertex j of a code, as a point's word, with the low sides of its box.
+pub fn vertex(code: &Code, lows: u64, j: usize) -> u64
+    requires { (lows ≡ lows_in (orthants_of code.now)) × (j ≤ dimension_of code.now) }
     ensures { result ≡ point_word (vertex_in code.now j) }
 {
-    let d = check::axes_of(code);
-    let entries = fours::words::word_in(code, d);
-    vertex_at(lows, side_of(code, d), entries, check::split_of(code, d), j)
+    let bytes = code.bytes();
+    let d = code.axes();
+    let entries = fours::words::word_in(bytes, d);
+    let split = check::split_of(bytes, d);
+    vertex_at(lows, side_of(code), entries, split, j)
 }
 
-// Writes the first d coordinates of a point from a place on, two bytes each, the low byte first. Gives the place after them.
+// Writes the first d coordinates of a point from a place on, two bytes each, the low byte first. Gives the place after them. One by one:
+// to copy them all at once is a call of memcpy, which the library does without.
 fn put_point(points: &mut [u8], at: usize, d: usize, point: u64) -> usize
     requires { (d ≤ 4) × (at + 2 * d ≤ length points.old) }
     ensures { Puts at (coordinate_bytes d point) points.old result points.new }
 {
     let mut left = point;
-    let mut to = at;
-    let mut n: usize = 0;
-    while n < d {
-        points[to] = (left % 256) as u8;
-        points[to + 1] = (left / 256 % 256) as u8;
-        left = left / 65536;
-        to += 2;
-        n += 1;
+    for n in 0..d {
+        let to = at + 2 * n;
+        let coordinate = (left % 65536) as u16;
+        points[to..to + 2].copy_from_slice(&coordinate.to_le_bytes());
+        left /= 65536;
     }
-    to
+    at + 2 * d
 }
 
-// Writes the vertices of a code that passes, one after the other.
-pub fn write_cell(code: &[u8], points: &mut [u8])
-    requires { CellReady code.now (length points.old) }
+// Writes the vertices of a code, one after the other.
+pub fn write_cell(code: &Code, points: &mut [u8])
+    requires { points_length (dimension_of code.now) ≤ length points.old }
     ensures { CellWritten code.now points.old points.new }
 {
-    let d = check::axes_of(code);
+    let bytes = code.bytes();
+    let d = code.axes();
     let lows = lows_of(code);
-    let side = side_of(code, d);
-    let entries = fours::words::word_in(code, d);
-    let split = check::split_of(code, d);
-    let mut at: usize = 0;
-    let mut j: usize = 0;
-    while j <= d {
+    let side = side_of(code);
+    let entries = fours::words::word_in(bytes, d);
+    let split = check::split_of(bytes, d);
+    let mut at = 0;
+    for j in 0..=d {
         at = put_point(points, at, d, vertex_at(lows, side, entries, split, j));
-        j += 1;
     }
 }

@@ -1,5 +1,5 @@
 -- The ways out of a crossing, each with what is known there; and a change of a name's entries where more bytes follow them.
-use Rattle.std.specs.Prelude.{◌≡◌, refl, true, false, ◌≢◌, ℕ, suc, ◌+◌, ◌-◌, ◌≤◌, ◌<◌, T, length, get_or, take, drop, set}
+use Rattle.std.specs.Prelude.{◌≡◌, refl, true, false, ℕ, Ok, Err, suc, ◌+◌, ◌-◌, ◌≤◌, ◌<◌, T, length, get_or, take, drop, set}
 use Rattle.std.proofs.Math.Path.{sym}
 use Rattle.std.proofs.Common.{ap, ◌∙◌, subst, arith, length-set, take_at, drop_at}
 use mathlib.Core.List.{List, ◌∷◌, ◌++◌, append_assoc}
@@ -8,7 +8,11 @@ use Rattle.std.proofs.lemmas.List.{set-append_left}
 use Rattle.std.proofs.Math.Seq.{paste}
 use Rattle.bisection.specs.Cells.{Cell, vertex, cell_of}
 use Rattle.bisection.specs.Codes.{bytes, dimension_of, depth_of, entries_of, orthants_of, parts_of, negated}
-use Rattle.bisection.specs.Refusals.{done, refused_step, refused_face, refused_short, code_refusal}
+use Rattle.bisection.specs.declared.Refusal.{Refusal}
+use Rattle.bisection.specs.declared.Refusal.TheVariants.{Step, Face, Short}
+use Rattle.bisection.specs.Numbers.{number_of}
+use Rattle.bisection.specs.NumberLaws.{refuses}
+use Rattle.bisection.specs.Refusals.{done, code_refusal}
 use Rattle.bisection.specs.Facets.{IsCell, Shares}
 use Rattle.bisection.specs.Theorems.CodePaths.{root_of, path_of}
 use Rattle.bisection.proofs.Theorems.CodeCells.{code_cell, cell_passes, one_cell}
@@ -19,17 +23,19 @@ use Rattle.bisection.specs.Theorems.Neighbour.{is_blocked, table_code, table_pla
 use Rattle.bisection.proofs.Theorems.Neighbour.{blocked_is_face, blocked_alone, face_is_blocked, across_unblocked}
 use Rattle.bisection.proofs.Theorems.Entries.{turned_append, unturned_append}
 use Rattle.entries.specs.Passed.{Checked, checked}
+use Rattle.crossing.specs.declared.Crossing.{Crossing}
 use Rattle.crossing.specs.declared.Crossed.{Crossed}
 use Rattle.corners.specs.Vertices.{vertex_in}
-use Rattle.crossing.specs.Outcome.{by_axes, Refuses, Walled, Beyond, Meets, wall, short, crossed, Crosses}
-use Rattle.crossing.specs.Answers.{Bare, Whole}
+use Rattle.crossing.specs.Outcome.{by_axes, Refuses, Walled, Beyond, Meets, wall, short, crossed as meets_crossed, Crosses}
+use Rattle.crossing.specs.Forms.{crossed}
+use Rattle.crossing.specs.Answers.{Whole}
 
 -- the cell across has a code of the same length
 pub shares_size : {i : ℕ} {code code' : List ℕ} → Shares i code code' → length code' ≡ length code
 shares_size {i} {code} {code'} s = (checked code' (cell_passes s.cell')).size ∙ rw (← s.dimension, ← s.depth) (sym (checked code (cell_passes s.cell)).size)
 
-refuses : {number : ℕ} {before : List ℕ} {r : Crossed} → Bare number r → Refuses number before r before
-refuses f = record { number = f.number; place = f.place; size = f.size; vertex = f.vertex; kept = refl }
+refused : (x : Refusal) (before : List ℕ) → Refuses (number_of x) before (crossed (Err x)) before
+refused x before = record { number = refl; place = refl; size = refl; vertex = refl; kept = refl }
 
 -- what the table's answer says of a code that passes
 module _ (code : List ℕ) (p : code_refusal code ≡ done) (i : ℕ) (il : i ≤ dimension_of code) where
@@ -66,42 +72,45 @@ module _ (code : List ℕ) (p : code_refusal code ≡ done) (i : ℕ) (il : i �
     front_place = rw (table_front, ← (beyond e).across.shares.dimension) (beyond e).across.place
 
 -- the ways out, in document 01's order
-module _ (code before : List ℕ) (i : ℕ) {r : Crossed} where
-  pub cross_own : {x : ℕ} → x ≡ code_refusal code → x ≢ done → Bare x r → Crosses code i before r before
-  cross_own e n f = record {
-    own = λ q. subst (λ (x : ℕ). Refuses x before r before) e (refuses f);
-    above = λ p l. absurd (n (e ∙ p));
-    meets = λ p l. absurd (n (e ∙ p));
+module _ (code before : List ℕ) (i : ℕ) where
+  pub cross_own : (x : Refusal) → number_of x ≡ code_refusal code → Crosses code i before (crossed (Err x)) before
+  cross_own x e = record {
+    own = λ q. subst (λ (n : ℕ). Refuses n before (crossed (Err x)) before) e (refused x before);
+    above = λ p l. absurd (refuses x (e ∙ p));
+    meets = λ p l. absurd (refuses x (e ∙ p));
   }
 
-  -- as the code has the code's refusal, its dimension and the facet
-  pub cross_step : {x d j : ℕ} → x ≡ code_refusal code → x ≡ done → d ≡ dimension_of code → j ≡ i → d < j → Bare refused_step r → Crosses code i before r before
-  cross_step e z q t l f = record { own = λ n. absurd (n (sym e ∙ z)); above = λ p m. refuses f; meets = λ p m. absurd (omega arith) }
+  -- as the code has its dimension and the facet
+  pub cross_step : code_refusal code ≡ done → {d j : ℕ} → d ≡ dimension_of code → j ≡ i → d < j → Crosses code i before (crossed (Err Step)) before
+  cross_step p q t l = record { own = λ n. absurd (n p); above = λ p m. refused Step before; meets = λ p m. absurd (omega arith) }
 
   module _ (p : code_refusal code ≡ done) (il : i ≤ dimension_of code) where
-    met : {after : List ℕ} → Meets code i before r after → Crosses code i before r after
+    met : {r : Crossed} {after : List ℕ} → Meets code i before r after → Crosses code i before r after
     met m = record { own = λ n. absurd (n p); above = λ p l. absurd (omega arith); meets = λ p l. m }
 
-    pub cross_face : is_blocked code i ≡ true → Bare refused_face r → Crosses code i before r before
-    cross_face e f = met (wall (walled code p i il e) (refuses f))
+    pub cross_face : is_blocked code i ≡ true → Crosses code i before (crossed (Err Face)) before
+    cross_face e = met (wall (walled code p i il e) (refused Face before))
 
-    pub cross_short : is_blocked code i ≡ false → length before < length code → Bare refused_short r → Crosses code i before r before
-    cross_short e l f = met (short (table_code code i) (table_place code i) (beyond code p i il e) (omega (arith, table_size code p i il e)) (refuses f))
+    pub cross_short : is_blocked code i ≡ false → length before < length code → Crosses code i before (crossed (Err Short)) before
+    cross_short e l = met (short (table_code code i) (table_place code i) (beyond code p i il e) (omega (arith, table_size code p i il e)) (refused Short before))
 
     pub cross_done : (e : is_blocked code i ≡ false) {after : List ℕ} → after ≡ table_code code i ++ drop (length code) before → length code ≤ length before
-        → Whole (length code) (table_place code i) after r → Crosses code i before r after
-    cross_done e {after} q l w = met (crossed (table_code code i) (table_place code i) (beyond code p i il e) (omega (arith, size))
+        → {r : Crossing} → Whole (table_place code i) (take (length code) after) r → Crosses code i before (crossed (Ok r)) after
+    cross_done e {after} q l w = met (meets_crossed (table_code code i) (table_place code i) (beyond code p i il e) (omega (arith, size))
         (record {
-          number = w.number;
+          number = refl;
           place = w.place;
-          size = w.size ∙ sym size;
-          vertex = w.vertex ∙ ap by_axes (ap (λ (l : List ℕ). vertex_in l (table_place code i)) (table_front code p i il e (drop (length code) before) q)
+          size = w.size ∙ ap length front;
+          vertex = w.vertex ∙ ap by_axes (ap (λ (l : List ℕ). vertex_in l (table_place code i)) front
               ∙ ap (λ (ws : Cell). vertex ws (table_place code i)) (one_cell (code_cell (table_code code i) (cell_passes there)) there));
           written = q ∙ ap (λ (n : ℕ). table_code code i ++ drop n before) (sym size);
         }))
       where
         size : length (table_code code i) ≡ length code
         size = table_size code p i il e
+
+        front : take (length code) after ≡ table_code code i
+        front = table_front code p i il e (drop (length code) before) q
 
         there : IsCell (table_code code i) (beyond code p i il e).across.shares.ws
         there = (beyond code p i il e).across.shares.cell'

@@ -1,16 +1,20 @@
 -- The contract of crossing determines the answer: two outcomes that it allows for the same input are equal, every number
 -- and every lent cell. And crossing back leads back: from the code that an answer gives, across the place that it gives,
 -- the answer is the first code, byte by byte, the first facet, and the vertex that the first crossing left.
-use Rattle.std.specs.Prelude.{◌≡◌, refl, List, ◌++◌, ◌≢◌, ℕ, ◌≤◌, ◌<◌, length, take, drop}
+use Rattle.std.specs.Prelude.{◌≡◌, refl, List, ◌++◌, ◌≢◌, ℕ, Result, Ok, Err, ◌≤◌, ◌<◌, length, take, drop}
 use Rattle.std.proofs.Common.{sym, ap, ◌∙◌, subst, arith, take_at}
 use Rattle.std.proofs.Math.Decide.{dec_lt, ℕ_discrete}
 use Rattle.bisection.specs.Cells.{Point, Cell, vertex}
 use Rattle.bisection.specs.Codes.{dimension_of}
+use Rattle.bisection.specs.declared.Refusal.{Refusal}
+use Rattle.bisection.specs.NumberLaws.{refuses, one_refusal}
 use Rattle.bisection.specs.Refusals.{done, code_refusal}
 use Rattle.bisection.specs.Facets.{IsCell, Across}
 use Rattle.bisection.proofs.Theorems.CodeCells.{cell_passes, one_cell}
 use Rattle.bisection.proofs.Theorems.Neighbour.{across_determined, across_back}
+use Rattle.crossing.specs.declared.Crossing.{Crossing}
 use Rattle.crossing.specs.declared.Crossed.{Crossed}
+use Rattle.crossing.specs.Forms.{crossed as form}
 use Rattle.crossing.specs.Outcome.{by_axes, Refuses, Gives, Walled, Beyond, Meets, wall, short, crossed, Crosses}
 use Rattle.crossing.specs.Determined.{Back, Given, Same}
 
@@ -114,3 +118,10 @@ module _ {code : List ℕ} {i : ℕ} {before : List ℕ} {r : Crossed} {after : 
 
     pub crossing_back : Crosses (take r.length after) r.place before' r' after' → Back code i r' after'
     crossing_back b = met_back ((subst (λ (c : List ℕ). Crosses c r.place before' r' after') there.front b).meets (cell_passes there.across.shares.cell') within)
+
+-- the form that a C program has of an answer loses nothing
+pub one_crossed : (r r' : Result Crossing Refusal) → form r ≡ form r' → r ≡ r'
+one_crossed (Ok a) (Ok b) e = ap Ok (λ i. record { place = (e i).place; length = (e i).length; vertex = (e i).vertex })
+one_crossed (Ok a) (Err y) e = absurd (refuses y (sym (ap (λ (w : Crossed). w.refusal) e)))
+one_crossed (Err x) (Ok b) e = absurd (refuses x (ap (λ (w : Crossed). w.refusal) e))
+one_crossed (Err x) (Err y) e = ap Err (one_refusal x y (ap (λ (w : Crossed). w.refusal) e))

@@ -1,6 +1,6 @@
 -- A crossing that leaves the box: facet d, and facet 0 at the start of a level. One entry changes its sign, the box
 -- moves against an entry, and the new vertex stands where the old one did.
-use Rattle.std.specs.Prelude.{◌≡◌, Bool, false, not, cond, ◌≢◌, eqb, length, get_or, take}
+use Rattle.std.specs.Prelude.{◌≡◌, Bool, true, false, Err, not, cond, ◌≢◌, eqb, length, get_or, take}
 use Rattle.std.proofs.Math.Path.{refl, sym, ap}
 use Rattle.std.proofs.Common.{◌∙◌, subst}
 use mathlib.Core.List.{List, ◌∷◌, ◌++◌, append_assoc}
@@ -13,7 +13,7 @@ use Rattle.std.proofs.Math.Seq.{take_at}
 use borrow.Author.Tests.{eq-eqb, ne_eqb}
 use Rattle.dimension.specs.Sizes.{code_length, longest_of_all, split_place}
 use Rattle.bisection.specs.Codes.{axis, minus, negated, Name, bytes, dimension_of, depth_of, entries_of, orthants_of, parts_of}
-use Rattle.bisection.specs.Refusals.{done, refused_face, refused_short, code_refusal}
+use Rattle.bisection.specs.Refusals.{done, code_refusal}
 use Rattle.bisection.proofs.Theorems.Entries.{axis_negated, minus_negated}
 use Rattle.bisection.specs.Theorems.Table.{nearer, farther, move, move_of, new_at, new_place, next_own, negated_at, entries_by, orthants_by, blocked_by, blocked, across_name, runs_out, carried}
 use Rattle.bisection.specs.Theorems.Neighbour.{is_blocked, table_code}
@@ -21,9 +21,12 @@ use Rattle.entries.specs.Walks.{entry_at}
 use Rattle.entries.specs.Passed.{code_few, Checked, checked}
 use Rattle.steps.specs.Copying.{whole_front}
 use Rattle.moves.specs.Carrying.{Ends, Flips, ends_out, ends_stopped, flips_carried}
-use Rattle.crossing.proofs.AnswerLaws.{table_place_is}
-use Rattle.crossing.specs.Landing.{beside, Lands}
-use Rattle.crossing.proofs.LandingLaws.{lands_face, lands_short, lands_done}
+use Rattle.crossing.proofs.AnswerLaws.{cross_face, cross_short}
+use Rattle.bisection.specs.declared.Refusal.TheVariants.{Face, Short}
+use Rattle.crossing.specs.Forms.{crossed}
+use Rattle.crossing.specs.Outcome.{Crosses}
+use Rattle.crossing.specs.Landing.{Landed}
+use Rattle.crossing.proofs.LandingLaws.{landed}
 use Rattle.crossing.specs.Leaving.{Leaving}
 
 -- the two rows
@@ -188,8 +191,8 @@ module _ {code : List ℕ} {d at e i : ℕ} (r : Leaving code d at e i) where
     unfolding orthants_of
     wall q = r.wall ∙ sym (ap (λ (x : ℕ). runs_out (minus e) (axis e) (drop (2 + x) code)) r.axes) ∙ q
 
-    pub leaving_face : (before : List ℕ) → end ≡ 2 + d → Lands code i before refused_face before
-    leaving_face before q = lands_face code before i r.passes leaving_facet (wall (ends_out (minus e) (axis e) c q))
+    pub leaving_face : (before : List ℕ) → end ≡ 2 + d → Crosses code i before (crossed (Err Face)) before
+    leaving_face before q = cross_face code before i r.passes leaving_facet (wall (ends_out (minus e) (axis e) c q))
 
     module _ (goes : end ≡ 2 + d → ⊥) where
       open_there : is_blocked code i ≡ false
@@ -198,8 +201,8 @@ module _ {code : List ℕ} {d at e i : ℕ} (r : Leaving code d at e i) where
       pub leaving_some : 2 + d < end
       leaving_some = omega (arith, goes, c.low)
 
-      pub leaving_short : (before : List ℕ) → length before < length code → Lands code i before refused_short before
-      leaving_short before l = lands_short code before i r.passes leaving_facet open_there l
+      pub leaving_short : (before : List ℕ) → length before < length code → Crosses code i before (crossed (Err Short)) before
+      leaving_short before l = cross_short code before i r.passes leaving_facet open_there l
 
       -- the buffer: the code copied, the carry, then the sign changed
       module _ (before : List ℕ) where
@@ -253,8 +256,7 @@ module _ {code : List ℕ} {d at e i : ℕ} (r : Leaving code d at e i) where
 
         pub leaving_done : {buf after : List ℕ} {v x : ℕ} → length code ≤ length before → v ≡ negated (get_or code (2 + at) 0)
             → buf ≡ take (length code) code ++ drop (length code) before → x ≡ axis e → Flips (end - 1) (length code) x buf after
-            → Lands code i before (beside + i) (set after (2 + at) v)
+            → Landed code i before (record { place = i; beside = true }) (set after (2 + at) v)
         unfolding rest
-        leaving_done {buf} {after} {v} l q b h f = lands_done code before i r.passes leaving_facet open_there l (omega arith)
-            (omega (arith, r.new, table_place_is code r.passes i leaving_facet open_there)) (λ u. absurd (omega arith))
+        leaving_done {buf} {after} {v} l q b h f = landed code before i r.passes leaving_facet open_there l (record { place = i; beside = true }) (sym r.new) (λ u. absurd (cc))
             (ap (λ (x : List ℕ). set x (2 + at) v) (carried_there b (subst (λ (a : ℕ). Flips (end - 1) (length code) a buf after) h f)) ∙ turned q ∙ table)

@@ -1,6 +1,6 @@
 -- A crossing that stays in the box: every other facet. The entries are rearranged, the orthants stay, and there is
 -- always a cell across.
-use Rattle.std.specs.Prelude.{◌≡◌, ◌≢◌, Bool, cond, List, ◌++◌, ℕ, ◌+◌, ◌≤◌, ◌<◌, eqb, get_or}
+use Rattle.std.specs.Prelude.{◌≡◌, ◌≢◌, Bool, Err, cond, List, ◌++◌, ℕ, ◌+◌, ◌≤◌, ◌<◌, eqb, get_or}
 use Rattle.std.proofs.Math.Path.{refl, sym, ap, subst}
 use Rattle.std.proofs.Common.{◌∙◌, arith}
 use Rattle.std.proofs.Math.Bool.{true, false}
@@ -11,7 +11,7 @@ use borrow.Author.Tests.{eq-eqb, ne_eqb}
 use Rattle.dimension.specs.Sizes.{code_length, longest_of_all, split_place}
 use Rattle.dimension.specs.Laws.{split_range}
 use Rattle.bisection.specs.Codes.{axis, minus, high, Name, bytes, dimension_of, depth_of, entries_of, orthants_of, parts_of}
-use Rattle.bisection.specs.Refusals.{done, refused_short, same_sign, own_minus, code_refusal}
+use Rattle.bisection.specs.Refusals.{done, same_sign, own_minus, code_refusal}
 use Rattle.bisection.specs.Theorems.Table.{swap, left, right, trade, move_of, new_place, next_own, entries_by, orthants_by, blocked_by, blocked, across_name}
 use Rattle.bisection.proofs.Theorems.Checked.{parts_bytes}
 use Rattle.bisection.proofs.Theorems.Crossing.Moves.{view}
@@ -26,9 +26,12 @@ use Rattle.fours.specs.declared.Four.{Four}
 use Rattle.fours.specs.Fours.{four, no_entries}
 use Rattle.fours.specs.Laws.{pasted}
 use Rattle.moves.specs.Rearranging.{own_next, Rearranges, within, within_is, Movable}
-use Rattle.crossing.proofs.AnswerLaws.{table_place_is, entries_append, code_pasted}
-use Rattle.crossing.specs.Landing.{landed, Lands}
-use Rattle.crossing.proofs.LandingLaws.{lands_short, lands_done}
+use Rattle.crossing.proofs.AnswerLaws.{cross_short, entries_append, code_pasted}
+use Rattle.bisection.specs.declared.Refusal.TheVariants.{Short}
+use Rattle.crossing.specs.Forms.{crossed}
+use Rattle.crossing.specs.Outcome.{Crosses}
+use Rattle.crossing.specs.Landing.{Landed}
+use Rattle.crossing.proofs.LandingLaws.{landed}
 use Rattle.crossing.specs.Staying.{Staying}
 
 -- from the numbers that the code computes
@@ -179,9 +182,8 @@ module _ {code : List ℕ} {d k i : ℕ} (r : Staying code d k i) where
             ∙ ap orthants_of across
 
         pub staying_done : (out : List ℕ) {buf after : List ℕ} → length code ≤ length out → buf ≡ take (length code) code ++ drop (length code) out → after ≡ paste buf 2 rs d
-            → Lands code i out (landed + place) after
-        staying_done out h b a = lands_done code out i r.passes staying_facet staying_free h (omega arith)
-            (omega (arith, there, table_place_is code r.passes i staying_facet staying_free)) (λ l. same)
+            → Landed code i out (record { place = place; beside = false }) after
+        staying_done out h b a = landed code out i r.passes staying_facet staying_free h (record { place = place; beside = false }) there (λ l. same)
             (a ∙ ap (λ (l : List ℕ). paste l 2 rs d) (b ∙ whole_front code out) ∙ code_pasted code r.passes r.axes rs (drop (length code) out)
             ∙ ap (λ (l : List ℕ). l ++ drop (length code) out) across)
 
@@ -197,5 +199,5 @@ module _ {code : List ℕ} {d k i : ℕ} (r : Staying code d k i) where
     first = λ z. r.first (sym f ∙ z);
   }
 
-  pub staying_short : (out : List ℕ) → length out < length code → Lands code i out refused_short out
-  staying_short out h = lands_short code out i r.passes staying_facet staying_free h
+  pub staying_short : (out : List ℕ) → length out < length code → Crosses code i out (crossed (Err Short)) out
+  staying_short out h = cross_short code out i r.passes staying_facet staying_free h

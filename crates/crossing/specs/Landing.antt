@@ -1,37 +1,27 @@
--- A crossing's answer as one number: a refusal, or the place of the new vertex and 16 more, or 32 more where the crossing leaves its box.
--- What it says.
-use Rattle.std.specs.Prelude.{◌≡◌, List, ℕ, ◌%◌, ◌≤◌, ◌<◌, length, take}
+-- Where a crossing lands: refused, or at a place, in its box or beside it. What that says.
+use Rattle.std.specs.Prelude.{◌≡◌, false, List, ℕ, Result, Ok, Err, ◌≤◌, length, take}
+use Rattle.bisection.specs.declared.Refusal.{Refusal}
 use Rattle.bisection.specs.Codes.{dimension_of, orthants_of}
 use Rattle.bisection.specs.Refusals.{done, code_refusal}
-use Rattle.crossing.specs.declared.Crossed.{Crossed}
+use Rattle.crossing.specs.declared.Crossing.{Crossing}
+use Rattle.crossing.specs.declared.Landing.{Landing}
+use Rattle.crossing.specs.Forms.{crossed}
 use Rattle.crossing.specs.Outcome.{Crosses}
-use Rattle.crossing.specs.Answers.{Bare, Whole}
+use Rattle.crossing.specs.Answers.{Whole}
 
--- no refusal's number is so high
-abbrev pub landed : ℕ
-landed = 16
+-- the code across has a vertex at the place, and the first code's orthants where the crossing stays in its box
+pub record Answerable (l : Landing) (code across : List ℕ) : Type 0 where
+  pub same : l.beside ≡ false → orthants_of code ≡ orthants_of across
+  pub place : l.place ≤ dimension_of across
 
-abbrev pub beside : ℕ
-beside = 32
+-- such a code stands at the front of the buffer, and the answer that it gives is a crossing's
+pub record Landed (code : List ℕ) (i : ℕ) (before : List ℕ) (l : Landing) (after : List ℕ) : Type 0 where
+  pub room : length code ≤ length after
+  pub passes : code_refusal (take (length code) after) ≡ done
+  pub ready : Answerable l code (take (length code) after)
+  pub says : (r : Crossing) → Whole l.place (take (length code) after) r → Crosses code i before (crossed (Ok r)) after
 
--- the code across passes; so does the first one, with the same orthants, where the number says that the crossing stays in its box
-pub record Boxed (number : ℕ) (code across : List ℕ) : Type 0 where
-  pub passes : code_refusal across ≡ done
-  pub own : code_refusal code ≡ done
-  pub same : number < beside → orthants_of code ≡ orthants_of across
-
--- where the crossing is done, such a code stands at the front of the buffer, with a vertex at the place
-pub record Answerable (number : ℕ) (code out : List ℕ) : Type 0 where
-  pub room : landed ≤ number → length code ≤ length out
-  pub boxed : landed ≤ number → Boxed number code (take (length code) out)
-  pub place : landed ≤ number → number % landed ≤ dimension_of (take (length code) out)
-
--- the answer that a number gives, with the code's length and the buffer
-pub record AnswerIs (number n : ℕ) (out : List ℕ) (r : Crossed) : Type 0 where
-  pub refused : number < landed → Bare number r
-  pub crossed : landed ≤ number → Whole n (number % landed) out r
-
--- the answer that the number gives is a crossing's, and there is one
-pub record Lands (code : List ℕ) (i : ℕ) (before : List ℕ) (number : ℕ) (after : List ℕ) : Type 0 where
-  pub says : (r : Crossed) → AnswerIs number (length code) after r → Crosses code i before r after
-  pub ready : Answerable number code after
+-- the answer is a crossing's, refused or done
+abbrev pub Lands : List ℕ → ℕ → List ℕ → Result Landing Refusal → List ℕ → Type 0
+Lands code i before (Ok l) after = Landed code i before l after
+Lands code i before (Err x) after = Crosses code i before (crossed (Err x)) after

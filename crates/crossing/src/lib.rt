@@ -4,19 +4,20 @@
 // box beside it, where the orthants change by carry.
 #![tactic(auto)]
 
-ghost use Rattle.std.specs.Prelude.{◌≡◌, length};
+ghost use Rattle.std.specs.Prelude.{◌≡◌, false};
 ghost use Rattle.bisection.specs.Codes.{orthants_of};
-ghost use Rattle.bisection.specs.Refusals.{done, code_refusal};
 ghost use Rattle.corners.specs.Lows.{lows_in};
 ghost use Rattle.crossing.specs.Outcome.{Crosses};
 ghost use Rattle.crossing.specs.Unpacking.{Unpacked};
-ghost use Rattle.crossing.specs.Answers.{Bare};
-ghost use Rattle.crossing.specs.Landing.{Boxed, Answerable, AnswerIs, Lands};
+ghost use Rattle.crossing.specs.Forms.{crossed};
+ghost use Rattle.crossing.specs.Answers.{Whole};
+ghost use Rattle.crossing.specs.Landing.{Answerable, Lands};
 ghost use Rattle.crossing.specs.Leaving.{Leaving};
 ghost use Rattle.crossing.specs.Staying.{Staying};
 
-use bisection::{DONE, REFUSED_FACE, REFUSED_SHORT, REFUSED_STEP};
+use bisection::{DONE, Refusal};
 use entries::check;
+use entries::code::Code;
 use fours::words;
 use moves::carries;
 use steps::buffers;
@@ -31,7 +32,29 @@ pub struct Vertex {
     pub fourth: u16,
 }
 
+// The vertex that a point's word gives.
+impl From<u64> for Vertex {
+    ghost from_gives = { Unpacked };
+
+    fn from(point: u64) -> Vertex {
+        Vertex {
+            first: (point % 65536) as u16,
+            second: ((point >> 16) % 65536) as u16,
+            third: ((point >> 32) % 65536) as u16,
+            fourth: (point >> 48) as u16,
+        }
+    }
+}
+
 // The answer: the place of the new vertex, how many bytes of the code across stand at the buffer's front, and the new vertex.
+#[derive(Clone, Copy)]
+pub struct Crossing {
+    pub place: u8,
+    pub length: usize,
+    pub vertex: Vertex,
+}
+
+// The same for a C program.
 #[repr(C)]
 #[derive(Clone, Copy)]
 pub struct Crossed {
@@ -41,154 +64,166 @@ pub struct Crossed {
     pub vertex: Vertex,
 }
 
-// The vertex that a point's word gives.
-fn vertex_of(point: u64) -> Vertex
-    ensures { Unpacked point result }
-{
-    Vertex {
-        first: (point % 65536) as u16,
-        second: ((point >> 16) % 65536) as u16,
-        third: ((point >> 32) % 65536) as u16,
-        fourth: (point >> 48) as u16,
+impl From<Result<Crossing, Refusal>> for Crossed {
+    ghost from_gives = { λ answer form. form ≡ crossed answer };
+
+    fn from(answer: Result<Crossing, Refusal>) -> Crossed {
+        match answer {
+            Ok(
+                Crossing {
+                    place,
+                    length,
+                    vertex,
+                },
+            ) => Crossed {
+                refusal: DONE,
+                place,
+                length,
+                vertex,
+            },
+            Err(refusal) => Crossed {
+                refusal: refusal.into(),
+                place: 0,
+                length: 0,
+                vertex: Vertex {
+                    first: 0,
+                    second: 0,
+                    third: 0,
+                    fourth: 0,
+                },
+            },
+        }
     }
 }
 
-// A refusal: its number, and nothing written.
-fn refused(refusal: u8) -> Crossed
-    ensures { Bare refusal result }
-{
-    Crossed {
-        refusal,
-        place: 0,
-        length: 0,
-        vertex: Vertex {
-            first: 0,
-            second: 0,
-            third: 0,
-            fourth: 0,
-        },
-    }
+// Where a crossing lands: the place of the new vertex, and whether it left its box for the one beside it.
+#[derive(Clone, Copy)]
+pub struct Landing {
+    pub place: u8,
+    pub beside: bool,
 }
-
-// A crossing gives one number: a refusal, or the place of the new vertex and so much more where it stays in its box, and twice as much
-// where it leaves it. A number comes back in a register, an answer of several through memory.
-const LANDED: u8 = 16;
-
-const BESIDE: u8 = 2 * LANDED;
 
 // The low sides of the box across. Where the crossing stays in its box they are read off the first code: what has just been written
 // would be waited for.
-fn lows_across(number: u8, code: &[u8], across: &[u8]) -> u64
-    requires { Boxed number code.now across.now }
+fn lows_across(beside: bool, code: &Code, across: &Code) -> u64
+    requires { beside ≡ false → orthants_of code.now ≡ orthants_of across.now }
     ensures { result ≡ lows_in (orthants_of across.now) }
 {
-    if number < BESIDE {
-        return corners::lows_of(code);
+    if beside {
+        corners::lows_of(across)
+    } else {
+        corners::lows_of(code)
     }
-    corners::lows_of(across)
 }
 
-// The answer that a crossing's number gives, with the code across at the buffer's front. The new vertex is read off that code, and no
-// other vertex is drawn.
-fn answer(number: u8, code: &[u8], out: &[u8]) -> Crossed
-    requires { Answerable number code.now out.now }
-    ensures { AnswerIs number (length code.now) out.now result }
+// The answer where a crossing landed, with the code across. The new vertex is read off that code, and no other vertex is drawn.
+fn answer(landing: Landing, code: &Code, across: &Code) -> Crossing
+    requires { Answerable landing code.now across.now }
+    ensures { Whole landing.place across.now result }
 {
-    if number < LANDED {
-        return refused(number);
-    }
-    let place = number % LANDED;
-    let length = code.len();
-    let across = &out[..length];
-    let lows = lows_across(number, code, across);
-    Crossed {
-        refusal: DONE,
-        place,
-        length,
-        vertex: vertex_of(corners::vertex(across, lows, common::size(place))),
+    let lows = lows_across(landing.beside, code, across);
+    Crossing {
+        place: landing.place,
+        length: across.bytes().len(),
+        vertex: corners::vertex(across, lows, usize::from(landing.place)).into(),
     }
 }
 
 // The crossing stays in the box.
-fn cross_inside(code: &[u8], d: usize, k: usize, facet: u8, out: &mut [u8]) -> u8
+fn cross_inside(
+    code: &[u8],
+    d: usize,
+    k: usize,
+    facet: u8,
+    out: &mut [u8],
+) -> Result<Landing, Refusal>
     requires { Staying code.now d k facet }
     ensures { Lands code.now facet out.old result out.new }
 {
     let length = code.len();
     if out.len() < length {
-        return REFUSED_SHORT;
+        return Err(Refusal::Short);
     }
-    let i = common::size(facet);
     let moved = moves::rearranged(
         words::entries_in(code, d),
         d,
         k,
-        i,
+        usize::from(facet),
         check::own_byte(code, d),
     );
     buffers::copy_front(code, length, out);
     fours::write(moved.entries, d, out, 2);
-    LANDED + moved.place
+    Ok(Landing {
+        place: moved.place,
+        beside: false,
+    })
 }
 
 // The crossing leaves the box, against the entry e; the one at place `at` changes its sign, and the new vertex stands
 // where the old one did.
-fn cross_outside(code: &[u8], d: usize, at: usize, e: u8, facet: u8, out: &mut [u8]) -> u8
+fn cross_outside(
+    code: &[u8],
+    d: usize,
+    at: usize,
+    e: u8,
+    facet: u8,
+    out: &mut [u8],
+) -> Result<Landing, Refusal>
     requires { Leaving code.now d at e facet }
     ensures { Lands code.now facet out.old result out.new }
 {
     let end = carries::carry_end(code, 2 + d, e);
     if end == 2 + d {
-        return REFUSED_FACE;
+        return Err(Refusal::Face);
     }
     let length = code.len();
     if out.len() < length {
-        return REFUSED_SHORT;
+        return Err(Refusal::Short);
     }
     let turned = entries::negate(code[2 + at]);
     buffers::copy_front(code, length, out);
     carries::carry(out, end - 1, length, entries::axis_of(e));
     out[2 + at] = turned;
-    BESIDE + facet
+    Ok(Landing {
+        place: facet,
+        beside: true,
+    })
 }
 
-// Crosses a facet of a code that has been checked, and gives the crossing's number.
-fn landing(code: &[u8], facet: u8, out: &mut [u8]) -> u8
-    requires { code_refusal code.now ≡ done }
+// Crosses a facet of a code, and tells where that lands.
+fn land(code: &Code, facet: u8, out: &mut [u8]) -> Result<Landing, Refusal>
     ensures { Lands code.now facet out.old result out.new }
 {
-    let code = &*code; // lent on anew, it comes in registers
-    let d = check::axes_of(code);
-    let i = common::size(facet);
+    let bytes = code.bytes();
+    let d = code.axes();
+    let i = usize::from(facet);
     if d < i {
-        return REFUSED_STEP;
+        return Err(Refusal::Step);
     }
-    let k = check::split_of(code, d);
+    let k = check::split_of(bytes, d);
     // across facet d, and across facet 0 at the start of a level
-    if moves::either(i == 0, k, i) == d {
-        let at = moves::either(i == 0, 0, d - 1);
-        let entry = code[2 + at];
-        let e = fours::pick(i == 0, entries::negate(entry), entry);
-        return cross_outside(code, d, at, e, facet, out);
+    if common::pick(i == 0, k, i) == d {
+        let at = common::pick(i == 0, 0, d - 1);
+        let entry = bytes[2 + at];
+        let e = common::pick(i == 0, entries::negate(entry), entry);
+        return cross_outside(bytes, d, at, e, facet, out);
     }
-    cross_inside(code, d, k, facet, out)
+    cross_inside(bytes, d, k, facet, out)
 }
 
 // The cell across a facet of a code that has been checked.
-pub fn cross_checked(code: &[u8], facet: u8, out: &mut [u8]) -> Crossed
-    requires { code_refusal code.now ≡ done }
-    ensures { Crosses code.now facet out.old result out.new }
+pub fn cross_checked(code: &Code, facet: u8, out: &mut [u8]) -> Result<Crossing, Refusal>
+    ensures { Crosses code.now facet out.old (crossed result) out.new }
 {
-    answer(landing(code, facet, out), code, &out[..])
+    let landing = land(code, facet, out)?;
+    let length = code.bytes().len();
+    let across = &out[..length];
+    Ok(answer(landing, code, &Code::known(across)))
 }
 
 // Across a facet lies a cell that has all its vertices, or a face of the cube.
-pub fn cross(code: &[u8], facet: u8, out: &mut [u8]) -> Crossed
-    ensures { Crosses code.now facet out.old result out.new }
+pub fn cross(code: &[u8], facet: u8, out: &mut [u8]) -> Result<Crossing, Refusal>
+    ensures { Crosses code.now facet out.old (crossed result) out.new }
 {
-    let refusal = codes::code_check(code);
-    if refusal != DONE {
-        return refused(refusal);
-    }
-    answer(landing(code, facet, out), code, &out[..])
+    cross_checked(&codes::checked(code)?, facet, out)
 }

@@ -1,7 +1,7 @@
 -- What a row of worked cells says. A row is an entry, its input and its outcome; it holds where the entry's contract
 -- allows that outcome, for every lent buffer with room. By the theorem that two outcomes of a contract are equal,
 -- the entry then has no other.
-use Rattle.std.specs.Prelude.{◌≡◌, List, [], ◌∷◌, ◌++◌, ℕ, ◌≤◌, length, drop, ℤ, pos}
+use Rattle.std.specs.Prelude.{◌≡◌, List, [], ◌∷◌, ◌++◌, ℕ, ◌≤◌, length, drop, ℤ, pos, Ok}
 use Rattle.bisection.specs.Refusals.{done, refused_face, code_refusal}
 use Rattle.codes.specs.declared.Written.{Written}
 use Rattle.codes.specs.Outcomes.{PathToCode, Vertices, Child}
@@ -12,12 +12,10 @@ use Rattle.std.specs.Float.{binary64}
 use Rattle.std.specs.Float.Ieee.{of_int, div}
 use Rattle.bisection.specs.Cells.{Point, point_bytes}
 use Rattle.bisection.specs.Slopes.{on_axis}
-use Rattle.greys.specs.declared.Value.TheVariants.{Grey}
 use Rattle.queries.specs.Queries.{leaf_told, LeafIs, ValueIs}
 use Rattle.queries.specs.SlopeQueries.{SlopeIs}
 use Rattle.compatible.specs.Compatible.{yes_or_no, CompatibleIs}
 use Rattle.slopes.specs.declared.Slopes.{Slopes}
-use Rattle.slopes.specs.declared.Slope.TheVariants.{Along}
 
 pub data Row : Type 0 where
   path_to_code : (root path code : List ℕ) → Row
@@ -65,8 +63,8 @@ Holds (sheet_check sheet records) = SheetIs sheet (told done 0 records)
 Holds (listing sheet text) = (before : List ℕ) → Lists sheet before (length text) (text ++ drop (length text) before)
 Holds (leaf_at sheet point number weights) = (before : List ℕ) → length (point_bytes weights) ≤ length before
     → LeafIs sheet point before (leaf_told done 0 number (length (point_bytes weights))) (point_bytes weights ++ drop (length (point_bytes weights)) before)
-Holds (value_at sheet point value) = ValueIs sheet point (Grey (of_int binary64 (pos value)))
-Holds (slope_at sheet point numbers side) = SlopeIs sheet point (Along (over_side side numbers))
+Holds (value_at sheet point value) = ValueIs sheet point (Ok (of_int binary64 (pos value)))
+Holds (slope_at sheet point numbers side) = SlopeIs sheet point (Ok (over_side side numbers))
 Holds (compatible sheet answer) = CompatibleIs sheet (yes_or_no done 0 answer)
 
 unfoldable pub Every : List Row → Type 0

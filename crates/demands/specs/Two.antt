@@ -1,6 +1,6 @@
 -- Demand 2. Codes, paths, vertices, parents, children, leaf sheets and point queries agree with Maubach's bisection as document 01 writes
 -- it (`cell_of`, `child`). Path to code and code to path undo each other, as calls; every cell up to the depth limit has exactly one code.
-use Rattle.std.specs.Prelude.{◌≡◌, List, ℕ, length, take, ℤ, Float}
+use Rattle.std.specs.Prelude.{◌≡◌, List, ℕ, length, take, ℤ, Float, Ok}
 use Rattle.dimension.specs.Sizes.{split_place}
 use Rattle.bisection.specs.Cells.{Cell, cell_of, cell_bytes, point_bytes, child}
 use Rattle.bisection.specs.Roots.{GoodRoot, GoodPath}
@@ -17,11 +17,9 @@ use Rattle.points.specs.Points.{point_of}
 use Rattle.queries.specs.declared.LeafAnswer.{LeafAnswer}
 use Rattle.queries.specs.Queries.{LeafIs, LeafAt, LeafWeights, ValueIs, cell_in, side_in}
 use Rattle.queries.specs.SlopeQueries.{SlopeIs}
-use Rattle.greys.specs.declared.Value.TheVariants.{Grey}
 use Rattle.greys.specs.Fractions.{Fraction}
 use Rattle.greys.specs.Samples.{grey_sum, sample_at}
 use Rattle.slopes.specs.declared.Slopes.{Slopes}
-use Rattle.slopes.specs.declared.Slope.TheVariants.{Along}
 use Rattle.slopes.specs.Slopes.{Components}
 use Rattle.compatible.specs.declared.CompatibleAnswer.{CompatibleAnswer}
 use Rattle.rings.specs.Compatible.{Compatible}
@@ -74,8 +72,8 @@ pub record Demand2 : Type 0 where
   -- the point queries' answers are those of the cells
   pub leaf_at : (sheet point before : List ℕ) (r : LeafAnswer) (after : List ℕ) → LeafIs sheet point before r after → r.refusal ≡ done
       → (t : There sheet point) × (r.number ≡ t.number) × (take r.length after ≡ point_bytes t.weights)
-  pub value_at : (sheet point : List ℕ) (x : Float) → ValueIs sheet point (Grey x)
+  pub value_at : (sheet point : List ℕ) (x : Float) → ValueIs sheet point (Ok x)
       → (t : There sheet point) × Fraction x (grey_sum sample_width t.weights (samples_of t.good.records t.number)) (side_in t.good.cells t.number)
-  pub slope_at : (sheet point : List ℕ) (x : Slopes) → SlopeIs sheet point (Along x) → SlopesThere sheet point x
+  pub slope_at : (sheet point : List ℕ) (x : Slopes) → SlopeIs sheet point (Ok x) → SlopesThere sheet point x
   -- a sheet is said to be compatible exactly where it is
   pub compatible : (sheet : List ℕ) (r : CompatibleAnswer) → CompatibleIs sheet r → (n : ℕ) (g : Good sheet n) → (r.compatible ≡ 1 → Compatible g.cells) × (Compatible g.cells → r.compatible ≡ 1)

@@ -5,13 +5,13 @@ use Rattle.std.proofs.lemmas.List.{length-replicate}
 use Rattle.dimension.specs.Sizes.{is_dimension}
 use Rattle.bisection.specs.Roots.{roots, arrangements, joined, picks, axes_from}
 use Rattle.bisection.specs.Codes.{name_below, name_of, bytes, code_of}
-use Rattle.bisection.specs.Refusals.{done}
+use Rattle.bisection.specs.Refusals.{done, refused_leaf, refused_large}
 use Rattle.sheets.specs.Forests.{TreeCell, tree_cell, leaf, leaves, root_cells, no_deeper_none, no_deeper_more}
 use Rattle.sheets.specs.Forests.{none as forest_none, more as forest_more}
-use Rattle.sheets.specs.Sheets.{sheet_mark, sample_width, refused_leaf, none, more, GoodSheet, record_length, record_refusal, Read, start, next, told, ended_early, SheetIs}
+use Rattle.sheets.specs.Sheets.{sheet_mark, sample_width, none, more, GoodSheet, record_length, record_refusal, Read, start, next, told, ended_early, SheetIs}
 use Rattle.sheets.specs.Theorems.Listing.{GoodCell, CellsIn, cells_more, leaves_cells, record_passes, record_rest, record_read}
 use Rattle.sheets.specs.Theorems.Good.{good_alone}
-use Rattle.listing.specs.Texts.{refused_large, refused_text, Listing, large, refused}
+use Rattle.listing.specs.Texts.{refused_text, Listing, large, refused}
 
 -- the 24 bytes of "The listing program", which P10 looks into: the leaves are the two roots
 abbrev pub two_leaves : List ℕ

@@ -15,13 +15,6 @@ pub enum Dim {
     Four,
 }
 
-// What a number of axes says.
-#[derive(Clone, Copy)]
-pub enum Known {
-    Dimension(Dim),
-    Nothing,
-}
-
 impl Dim {
     // How often the cube is halved on each axis.
     pub const HALVINGS: usize = 12;
@@ -33,14 +26,14 @@ impl Dim {
     pub const LONGEST_CODE: usize = 2 + Dim::MOST_AXES + Dim::HALVINGS;
 
     // The dimension of so many axes, if it is built.
-    pub fn of(axes: usize) -> Known
+    pub fn of(axes: usize) -> Option<Dim>
         ensures { KnownIs axes result }
     {
         match axes {
-            2 => Known::Dimension(Dim::Two),
-            3 => Known::Dimension(Dim::Three),
-            4 => Known::Dimension(Dim::Four),
-            _ => Known::Nothing,
+            2 => Some(Dim::Two),
+            3 => Some(Dim::Three),
+            4 => Some(Dim::Four),
+            _ => None,
         }
     }
 

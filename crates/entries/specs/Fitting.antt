@@ -3,18 +3,18 @@ use Rattle.std.specs.Prelude.{◌≡◌, refl, true, false, List, eqb, length, d
 use Rattle.std.proofs.Math.Path.{sym, ap, subst}
 use Rattle.std.proofs.Common.{◌∙◌, div-add-mod', mod-lt, pow_pos, get_or-drop, Fits, lt-ltb, eq-eqb, ne_eqb, ltb-true}
 use Rattle.std.proofs.Math.Bool.{Bool}
-use Prim.Native.Nat.{ℕ, zero, suc, ◌+◌, ◌-◌, ◌*◌, ◌/◌, ◌%◌, ◌^◌, min, ◌≤◌, ◌<◌}
+use Prim.Native.Nat.{ℕ, zero, suc, ◌+◌, ◌-◌, ◌*◌, ◌/◌, ◌^◌, min, ◌≤◌, ◌<◌}
 use native.Mathlib.Omega.{arith}
 use Rattle.std.proofs.Math.Nat.{div-eq_of_lt}
 use Rattle.std.proofs.Math.Decide.{dec_lt}
 use Rattle.std.proofs.Math.Dec.{ltb}
-use Rattle.std.specs.Int.Bits.{bit_or, or_add_and}
-use Rattle.std.proofs.lemmas.Nat.{or_lt, and_le_l, and_le_r}
+use Rattle.std.specs.Int.Bits.{bit_or}
+use Rattle.std.proofs.lemmas.Nat.{or_lt, le_or_l, le_or_r}
 use Rattle.std.proofs.Math.ListN.{get_or, length-drop, get_or-eq_default}
-use Rattle.std.specs.Int.{w8}
+use Rattle.std.specs.Int.{w8, w32, to_le_bytes}
 use Rattle.bisection.specs.Refusals.{each, orthants_fit}
 use Rattle.bisection.proofs.Theorems.Checked.{each_at, at_each}
-use Rattle.entries.specs.Words.{word_of, bytes_of, four_from, four_at, bytes_same, bytes_of_sum, or_byte}
+use Rattle.entries.specs.Words.{word_of, bytes_of, le_bytes, four_from, four_at, bytes_same, bytes_of_sum, or_byte}
 
 -- four orthants as a word: those from a place on that is no later than i, and among them all from i to i + 3 that there are
 pub record OrthantsFrom (os : List ℕ) (i r : ℕ) : Type 0 where
@@ -118,15 +118,6 @@ none_byte (suc (suc zero)) h = refl
 none_byte (suc (suc (suc zero))) h = refl
 none_byte (suc (suc (suc (suc m)))) h = absurd (omega arith)
 
-over_l : (a b : ℕ) → a ≤ bit_or a b
-over_l a b = omega (arith, or_add_and a b, and_le_r a b)
-
-over_r : (a b : ℕ) → b ≤ bit_or a b
-over_r a b = omega (arith, or_add_and a b, and_le_l a b)
-
-abbrev pub joined : ℕ → ℕ → ℕ → ℕ → ℕ
-joined a b c e = bit_or (bit_or (bit_or a b) c) e
-
 pub fit_none : (d : ℕ) (os : List ℕ) → FitSoFar d os 0 0
 fit_none d os = record { every = λ h j l m. absurd (omega arith); fits = λ f m l. rw (none_byte m l) (pow_pos d) }
 
@@ -142,8 +133,8 @@ module _ {d : ℕ} {os : List ℕ} {i any : ℕ} (t : FitSoFar d os i any) where
       in_bounds f j (no l) = rw (get_or-eq_default os 0 {n = j} (omega arith)) (pow_pos d)
 
       go : ((m : ℕ) → m < 4 → get_or (bytes_of (bit_or any w)) m 0 < 2 ^ d) → (j : ℕ) → j < i + 4 → j < length os → Dec (j < i) → get_or os j 0 < 2 ^ d
-      go h j l m (yes q) = t.every (λ x y. omega (arith, h x y, or_byte any w x y, over_l (get_or (bytes_of any) x 0) (get_or (bytes_of w) x 0))) j q m
-      go h j l m (no q) = omega (arith, here, h (j - o.from) in_four, or_byte any w (j - o.from) in_four, over_r (get_or (bytes_of any) (j - o.from) 0) (get_or (bytes_of w) (j - o.from) 0))
+      go h j l m (yes q) = t.every (λ x y. omega (arith, h x y, or_byte any w x y, le_or_l (get_or (bytes_of any) x 0) (get_or (bytes_of w) x 0))) j q m
+      go h j l m (no q) = omega (arith, here, h (j - o.from) in_four, or_byte any w (j - o.from) in_four, le_or_r (get_or (bytes_of any) (j - o.from) 0) (get_or (bytes_of w) (j - o.from) 0))
         where
           in_four : j - o.from < 4
           in_four = omega (arith, o.near j l m, o.start)
@@ -152,30 +143,37 @@ module _ {d : ℕ} {os : List ℕ} {i any : ℕ} (t : FitSoFar d os i any) where
           here = byte_is (j - o.from) in_four ∙ ap (λ (x : ℕ). get_or os x 0) (omega (arith, o.start))
 
   -- the bytes of the word or-ed
-  pub fit_all : {a b c e : ℕ} → a ≡ any / 2 ^ 0 % 256 → b ≡ any / 2 ^ 8 % 256 → c ≡ any / 2 ^ 16 % 256 → e ≡ any / 2 ^ 24 % 256 → length os ≤ i
-      → eqb (joined a b c e / 2 ^ d) 0 ≡ orthants_fit d os
-  unfolding orthants_fit
-  fit_all {a} {b} {c} {e} f g h k all = go (dec_lt (joined a b c e) (2 ^ d))
+  byte : ℕ → ℕ
+  byte m = get_or (bytes_of any) m 0
+
+  abbrev joined : ℕ
+  joined = bit_or (bit_or (bit_or (byte 0) (byte 1)) (byte 2)) (byte 3)
+
+  bytes_under : joined < 2 ^ d → (m : ℕ) → m < 4 → byte m < 2 ^ d
+  bytes_under l zero u = omega (arith, le_or_l (byte 0) (byte 1), le_or_l (bit_or (byte 0) (byte 1)) (byte 2), le_or_l (bit_or (bit_or (byte 0) (byte 1)) (byte 2)) (byte 3))
+  bytes_under l (suc zero) u = omega (arith, le_or_r (byte 0) (byte 1), le_or_l (bit_or (byte 0) (byte 1)) (byte 2), le_or_l (bit_or (bit_or (byte 0) (byte 1)) (byte 2)) (byte 3))
+  bytes_under l (suc (suc zero)) u = omega (arith, le_or_r (bit_or (byte 0) (byte 1)) (byte 2), le_or_l (bit_or (bit_or (byte 0) (byte 1)) (byte 2)) (byte 3))
+  bytes_under l (suc (suc (suc zero))) u = omega (arith, le_or_r (bit_or (bit_or (byte 0) (byte 1)) (byte 2)) (byte 3))
+  bytes_under l (suc (suc (suc (suc m)))) u = absurd (omega arith)
+
+  joined_under : ((m : ℕ) → m < 4 → byte m < 2 ^ d) → joined < 2 ^ d
+  joined_under u = or_lt d (bit_or (bit_or (byte 0) (byte 1)) (byte 2)) (byte 3)
+      (or_lt d (bit_or (byte 0) (byte 1)) (byte 2) (or_lt d (byte 0) (byte 1) (u 0 (omega arith)) (u 1 (omega arith))) (u 2 (omega arith))) (u 3 (omega arith))
+
+  pub fit_all : {bs : List ℕ} → bs ≡ to_le_bytes w32 any → length os ≤ i
+      → eqb (bit_or (bit_or (bit_or (get_or bs 0 0) (get_or bs 1 0)) (get_or bs 2 0)) (get_or bs 3 0) / 2 ^ d) 0 ≡ orthants_fit d os
+  unfolding orthants_fit byte
+  fit_all same all = rw (same ∙ le_bytes any) (go (dec_lt joined (2 ^ d)))
     where
       test : ℕ → Bool
       test j = ltb (get_or os j 0) (2 ^ d)
 
-      bytes_under : joined a b c e < 2 ^ d → (m : ℕ) → m < 4 → get_or (bytes_of any) m 0 < 2 ^ d
-      bytes_under l zero u = omega (arith, f, over_l a b, over_l (bit_or a b) c, over_l (bit_or (bit_or a b) c) e)
-      bytes_under l (suc zero) u = omega (arith, g, over_r a b, over_l (bit_or a b) c, over_l (bit_or (bit_or a b) c) e)
-      bytes_under l (suc (suc zero)) u = omega (arith, h, over_r (bit_or a b) c, over_l (bit_or (bit_or a b) c) e)
-      bytes_under l (suc (suc (suc zero))) u = omega (arith, k, over_r (bit_or (bit_or a b) c) e)
-      bytes_under l (suc (suc (suc (suc m)))) u = absurd (omega arith)
-
-      joined_under : ((m : ℕ) → m < 4 → get_or (bytes_of any) m 0 < 2 ^ d) → joined a b c e < 2 ^ d
-      joined_under u = or_lt d (bit_or (bit_or a b) c) e (or_lt d (bit_or a b) c (or_lt d a b (rw f (u 0 (omega arith))) (rw g (u 1 (omega arith)))) (rw h (u 2 (omega arith)))) (rw k (u 3 (omega arith)))
-
-      go : Dec (joined a b c e < 2 ^ d) → eqb (joined a b c e / 2 ^ d) 0 ≡ each (length os) test
-      go (yes l) = eq-eqb (joined a b c e / 2 ^ d) 0 (div-eq_of_lt l) ∙ sym (at_each (length os) test (λ j m. lt-ltb (get_or os j 0) (2 ^ d) (t.every (bytes_under l) j (omega arith) m)))
-      go (no l) = ne_eqb (joined a b c e / 2 ^ d) 0 (λ q. l (low q)) ∙ sym (none (each (length os) test) refl)
+      go : Dec (joined < 2 ^ d) → eqb (joined / 2 ^ d) 0 ≡ each (length os) test
+      go (yes l) = eq-eqb (joined / 2 ^ d) 0 (div-eq_of_lt l) ∙ sym (at_each (length os) test (λ j m. lt-ltb (get_or os j 0) (2 ^ d) (t.every (bytes_under l) j (omega arith) m)))
+      go (no l) = ne_eqb (joined / 2 ^ d) 0 (λ q. l (low q)) ∙ sym (none (each (length os) test) refl)
         where
-          low : joined a b c e / 2 ^ d ≡ 0 → joined a b c e < 2 ^ d
-          low q = omega (arith, div-add-mod' (joined a b c e) (2 ^ d), ap (λ (u : ℕ). u * 2 ^ d) q, mod-lt (joined a b c e) (pow_pos d))
+          low : joined / 2 ^ d ≡ 0 → joined < 2 ^ d
+          low q = omega (arith, div-add-mod' joined (2 ^ d), ap (λ (u : ℕ). u * 2 ^ d) q, mod-lt joined (pow_pos d))
 
           none : (t' : Bool) → each (length os) test ≡ t' → t' ≡ false
           none false q = refl

@@ -1,8 +1,8 @@
 -- The axes of four entries as one mask: their marks, or-ed. And the test of a permutation by it: d entries whose marks are those of
 -- 1..d have every axis, so each of them just once; and d entries with the axes 1..d, none repeated, have every mark of 1..d and no other.
-use Rattle.std.specs.Prelude.{◌≡◌, refl, Bool, true, false, cond, List, [], ◌∷◌, map, ℕ, zero, suc, ◌+◌, ◌-◌, ◌*◌, ◌/◌, ◌%◌, ◌^◌, ◌≤◌, ◌<◌, T, eqb, leb, length, get_or, take}
+use Rattle.std.specs.Prelude.{◌≡◌, refl, All, Bool, true, false, cond, List, [], ◌∷◌, map, ℕ, zero, suc, ◌+◌, ◌-◌, ◌*◌, ◌/◌, ◌%◌, ◌^◌, ◌≤◌, ◌<◌, T, eqb, leb, length, get_or, take}
 use Rattle.std.proofs.Math.Path.{sym, ap}
-use Rattle.std.proofs.Common.{◌∙◌, subst, arith, mod-lt, pow_pos, get_or-take, length-take-le, eq-eqb, ne_eqb, le-leb}
+use Rattle.std.proofs.Common.{◌∙◌, subst, arith, pow_pos, get_or-take, length-take-le, eq-eqb, ne_eqb, le-leb}
 use Rattle.std.proofs.Math.Nat.{zero-div}
 use Rattle.std.proofs.Math.Decide.{dec_lt, dec_le, ℕ_discrete}
 use Rattle.std.specs.Int.Bits.{bit_or, bit_and, or_zero_l}
@@ -11,6 +11,7 @@ use Rattle.std.proofs.lemmas.Nat.Bits.{and_high}
 use Rattle.std.proofs.Math.Pow.{pow-lt}
 use Rattle.std.proofs.Math.ListN.{get_or-eq_default}
 use Rattle.std.proofs.lemmas.Bool.{lt-leb}
+use Rattle.std.proofs.lemmas.List.Elements.{All-from_get_or}
 use Rattle.bisection.specs.Codes.{axis, minus, high}
 use Rattle.bisection.specs.Refusals.{each, permutes, same_sign}
 use Rattle.bisection.specs.Theorems.Onto.{Sought, found, none, Taken}
@@ -20,9 +21,9 @@ use Rattle.bisection.proofs.Theorems.Entries.{stands}
 use Rattle.bisection.proofs.Theorems.Orthants.{bits_same}
 use Rattle.bisection.proofs.Theorems.Passing.{same_true}
 use Rattle.bisection.proofs.Theorems.Checked.{each_at, permutes_signed, signed_permutes}
-use Rattle.entries.specs.Masks.{mark_of, negated_alone, axis_none, marked_high, marked_byte, high_none, shifted_bit}
+use Rattle.entries.specs.Masks.{mark_of, axis_none, marked_high, marked_byte, high_none, shifted_bit}
 use Rattle.entries.specs.Walks.{permutes_take}
-use Rattle.entries.specs.Words.{bytes_of, bytes_sum, NoneBehind, FirstOf, byte_at, and_byte}
+use Rattle.entries.specs.Words.{bytes_of, bytes_sum, NoneBehind, FirstOf, byte_at, byte_small, and_byte}
 
 -- where every axis stands among d entries, each stands at one place
 module _ (d : ℕ) (es : List ℕ) (size : length es ≡ d) (all : (a : ℕ) → 1 ≤ a → a ≤ d → Stands es a d) where
@@ -112,25 +113,36 @@ marked_next {es} {i} {seen} m e is = record {
 abbrev pub MarksOf : List ℕ → ℕ → Type 0
 MarksOf es seen = Marked es 4 seen
 
--- as the code joins the marks of its bytes
-pub four_marks : {a b c e p q r s x y z u : ℕ} → p ≡ a → q ≡ b → r ≡ c → s ≡ e → x ≡ mark_of (axis p) → y ≡ mark_of (axis q) → z ≡ mark_of (axis r) → u ≡ mark_of (axis s)
-    → MarksOf (a ∷ b ∷ c ∷ e ∷ []) (bit_or (bit_or (bit_or x y) z) u)
-four_marks {a} {b} {c} {e} f g h k f' g' h' k' = rw (f', g', h', k', f, g, h, k, ← or_zero_l (mark_of (axis a))) fourth
+-- what four bytes give, or-ed
+pub record JoinOf (Gives : ℕ → ℕ → Type 0) (es : List ℕ) (r : ℕ) : Type 0 where
+  pub first : ℕ
+  pub second : ℕ
+  pub third : ℕ
+  pub fourth : ℕ
+  pub gives_first : Gives (get_or es 0 0) first
+  pub gives_second : Gives (get_or es 1 0) second
+  pub gives_third : Gives (get_or es 2 0) third
+  pub gives_fourth : Gives (get_or es 3 0) fourth
+  pub is : r ≡ bit_or (bit_or (bit_or first second) third) fourth
+
+-- the marks of what f makes of them
+pub joined_marks : (f : ℕ → ℕ) {Gives : ℕ → ℕ → Type 0} {a b c e r : ℕ} → ((x y : ℕ) → Gives x y → y ≡ mark_of (axis (f x)))
+    → JoinOf Gives (a ∷ b ∷ c ∷ e ∷ []) r → MarksOf (map f (a ∷ b ∷ c ∷ e ∷ [])) r
+joined_marks f {Gives} {a} {b} {c} {e} told j =
+    rw (j.is, told a j.first j.gives_first, told b j.second j.gives_second, told c j.third j.gives_third, told e j.fourth j.gives_fourth, ← or_zero_l (mark_of (axis (f a)))) fourth
   where
     es : List ℕ
-    es = a ∷ b ∷ c ∷ e ∷ []
+    es = map f (a ∷ b ∷ c ∷ e ∷ [])
 
-    fourth : MarksOf es (bit_or (bit_or (bit_or (bit_or 0 (mark_of (axis a))) (mark_of (axis b))) (mark_of (axis c))) (mark_of (axis e)))
-    fourth = marked_next (marked_next (marked_next (marked_next (marked_none es) a refl) b refl) c refl) e refl
-
-pub four_minus_marks : {a b c e p q r s x y z u : ℕ} → p ≡ a → q ≡ b → r ≡ c → s ≡ e
-    → x ≡ mark_of (axis (negated_alone p)) → y ≡ mark_of (axis (negated_alone q)) → z ≡ mark_of (axis (negated_alone r)) → u ≡ mark_of (axis (negated_alone s))
-    → MarksOf (map negated_alone (a ∷ b ∷ c ∷ e ∷ [])) (bit_or (bit_or (bit_or x y) z) u)
-four_minus_marks f g h k = four_marks (ap negated_alone f) (ap negated_alone g) (ap negated_alone h) (ap negated_alone k)
+    fourth : MarksOf es (bit_or (bit_or (bit_or (bit_or 0 (mark_of (axis (f a)))) (mark_of (axis (f b)))) (mark_of (axis (f c)))) (mark_of (axis (f e))))
+    fourth = marked_next (marked_next (marked_next (marked_next (marked_none es) (f a) refl) (f b) refl) (f c) refl) (f e) refl
 
 -- a byte has a bit for every axis
 pub record HaveBits (es : List ℕ) : Type 0 where
   pub few : (i : ℕ) → axis (get_or es i 0) ≤ 8
+
+pub have_bits : {es : List ℕ} → HaveBits es → All (λ e. axis e ≤ 8) es
+have_bits {es} h = All-from_get_or (λ e. axis e ≤ 8) es 0 (λ i l. h.few i)
 
 -- the bits that are 0 where no axis is above 7, in a byte and in four
 byte_past : (e : ℕ) → e < 256 → (bit_and e 120 ≡ 0 → axis e ≤ 7) × (axis e ≤ 7 → bit_and e 120 ≡ 0)
@@ -151,9 +163,6 @@ abbrev past_seven : ℕ
 past_seven = 2021161080
 
 module _ (w : ℕ) where
-  small : (i : ℕ) → i < 4 → get_or (bytes_of w) i 0 < 256
-  small i h = rw (← byte_at w i h) (mod-lt (w / 2 ^ (8 * i)) (omega arith))
-
   past_byte : (i : ℕ) → i < 4 → get_or (bytes_of (bit_and w past_seven)) i 0 ≡ bit_and (get_or (bytes_of w) i 0) 120
   past_byte i h = and_byte w past_seven i h ∙ ap (bit_and (get_or (bytes_of w) i 0)) (each_past i h)
     where
@@ -168,7 +177,7 @@ module _ (w : ℕ) where
   none_past q = record { few = λ i. go i (dec_lt i 4) }
     where
       go : (i : ℕ) → Dec (i < 4) → axis (get_or (bytes_of w) i 0) ≤ 8
-      go i (yes h) = omega (arith, (byte_past (get_or (bytes_of w) i 0) (small i h)).0 (sym (past_byte i h) ∙ ap (λ (x : ℕ). get_or (bytes_of x) i 0) q ∙ zero_byte i h))
+      go i (yes h) = omega (arith, (byte_past (get_or (bytes_of w) i 0) (byte_small w i h)).0 (sym (past_byte i h) ∙ ap (λ (x : ℕ). get_or (bytes_of x) i 0) q ∙ zero_byte i h))
         where
           zero_byte : (i : ℕ) → i < 4 → get_or (bytes_of 0) i 0 ≡ 0
           zero_byte i h = sym (byte_at 0 i h) ∙ rw (zero-div (2 ^ (8 * i))) refl
@@ -178,7 +187,7 @@ module _ (w : ℕ) where
   all_small h = bytes_sum (bit_and w past_seven) (omega (arith, and_le_r w past_seven)) (none 0 (omega arith)) (none 1 (omega arith)) (none 2 (omega arith)) (none 3 (omega arith))
     where
       none : (i : ℕ) → i < 4 → get_or (bytes_of (bit_and w past_seven)) i 0 ≡ 0
-      none i l = past_byte i l ∙ (byte_past (get_or (bytes_of w) i 0) (small i l)).1 (h i l)
+      none i l = past_byte i l ∙ (byte_past (get_or (bytes_of w) i 0) (byte_small w i l)).1 (h i l)
 
 -- where zeros stand behind the first k, what has an axis is one of the k
 pub first_at : {k : ℕ} {es fs : List ℕ} → FirstOf k es fs → (a j : ℕ) → 1 ≤ a → axis (get_or fs j 0) ≡ a → (j < k) × (axis (get_or es j 0) ≡ a)

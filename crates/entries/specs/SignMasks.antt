@@ -141,5 +141,5 @@ module _ {k axes negated : ℕ} {es fs : List ℕ} (few : k ≤ 4) (within : Axe
       go (no q) = ne_eqb (bit_and axes own) negated q ∙ sym (wrong q (signs_by k es own) refl)
 
   -- as the code has the byte
-  pub signs_by_masks : {own o : ℕ} → (o ≡ own) × (o < 256) → eqb (bit_and axes o) negated ≡ signs_by k es own
-  signs_by_masks {own} {o} e = rw (← e.0) (signs_masked e.1)
+  pub signs_by_masks : {own o : ℕ} → own < 256 → o ≡ own → eqb (bit_and axes o) negated ≡ signs_by k es own
+  signs_by_masks small e = rw e (signs_masked small)

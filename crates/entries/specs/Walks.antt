@@ -5,12 +5,14 @@ use Rattle.std.proofs.Common.{ap, ◌∙◌, subst, arith, add-one, mod-lt, zero
 use Rattle.std.proofs.Math.Bool.{not}
 use Rattle.std.proofs.Math.Decide.{dec_lt}
 use Rattle.std.proofs.Math.Dec.{leb}
+use Rattle.std.specs.List.{AllWithin, HoldsAt}
+use Rattle.std.specs.Bool.{MatchBool}
 use Rattle.std.specs.Int.Bits.{bit_and}
 use Rattle.std.proofs.lemmas.Nat.{and_mask}
-use borrow.Author.Tests.{not-true, not-false, lt-ltb, le-ltb, lt-leb, le-leb}
+use borrow.Author.Tests.{lt-ltb, le-ltb, lt-leb, le-leb}
 use Rattle.bisection.specs.Codes.{axis, minus, high}
-use Rattle.bisection.specs.Refusals.{each, fresh, permutes, own_minus, same_sign, signs_own, is_root, is_path}
-use Rattle.bisection.proofs.Theorems.Checked.{and_false, and_both, each_fails}
+use Rattle.bisection.specs.Refusals.{each, fresh, permutes, own_minus, same_sign, signs_own, is_root}
+use Rattle.bisection.proofs.Theorems.Checked.{and_both, at_each, each_fails}
 use Rattle.entries.specs.Words.{four_from, four_at}
 
 -- tests in a row: equal tests, one more, one that fails
@@ -104,52 +106,21 @@ sign_bits e own {a} small is = rw (is, and_mask (own / 2 ^ (axis e - 1)) 1) (go 
     go (yes l) x h = let f : e / 2 ^ 7 ≡ 0 = omega arith in rw (lt-leb 128 e l, f) (one_or_none x h)
     go (no l) x h = let f : e / 2 ^ 7 ≡ 1 = omega arith in rw (le-leb 128 e (omega arith), f) refl
 
--- a root's bytes, under way: none before i has a sign
-pub record PlainSoFar (root : List ℕ) (i : ℕ) : Type 0 where
-  pub so_far : each i (λ j. not (minus (get_or root j 0))) ≡ true
+-- a test of each element of a list, as `all` answers
+pub each_all : (test : ℕ → Bool) (l : List ℕ) {t : Bool} → MatchBool t (AllWithin (λ x. test x ≡ true) l 0 (length l)) ((k : ℕ) × (k < length l) × HoldsAt (λ x. test x ≡ false) l k)
+    → t ≡ each (length l) (λ i. test (get_or l i 0))
+each_all test l {t = true} h = sym (at_each (length l) (λ i. test (get_or l i 0)) (λ i q. h i 0 (omega arith) q))
+each_all test l {t = false} h = sym (each_fails (length l) (λ i. test (get_or l i 0)) h.0 h.1 (h.2 0))
 
-pub plain_none : (root : List ℕ) → PlainSoFar root 0
-unfolding each
-plain_none root = record { so_far = refl }
-
--- as the code has the root, as one word
+-- a root's bytes, as one word
 root_word : (root es : List ℕ) → length root ≤ 4 → es ≡ four_from root 0 → permutes (length root) es ≡ permutes (length root) root
 root_word root es few e = permutes_same (length root) es root (λ i h. ap (λ (l : List ℕ). get_or l i 0) e ∙ four_at root 0 i (omega arith) ∙ ap (λ (x : ℕ). get_or root x 0) (zero-add i))
 
-pub root_permutes : (root : List ℕ) {es : List ℕ} {t : Bool} → length root ≤ 4 → es ≡ four_from root 0 → t ≡ permutes (length root) es → not t ≡ true → false ≡ is_root root
-unfolding is_root
-root_permutes root {es} {t} few e f q = sym (rw (sym (root_word root es few e) ∙ sym f ∙ not-true t q) refl)
-
-module _ {root : List ℕ} {i : ℕ} (s : PlainSoFar root i) where
-  pub plain_next : minus (get_or root i 0) ≡ false → PlainSoFar root (i + 1)
-  plain_next e = record { so_far = each_more i (λ j. not (minus (get_or root j 0))) s.so_far (ap not e) }
-
-  pub plain_fail : i < length root → minus (get_or root i 0) ≡ true → false ≡ is_root root
+module _ (root : List ℕ) {es : List ℕ} {t : Bool} (few : length root ≤ 4) (e : es ≡ four_from root 0) (told : t ≡ permutes (length root) es) where
+  pub root_plain : {u : Bool} → t ≡ true → u ≡ each (length root) (λ i. not (minus (get_or root i 0))) → u ≡ is_root root
   unfolding is_root
-  plain_fail l e = sym (rw (each_fails (length root) (λ j. not (minus (get_or root j 0))) i l (ap not e)) (and_false (permutes (length root) root)))
+  root_plain q f = sym (rw (sym (root_word root es few e) ∙ sym told ∙ q) (sym f))
 
-  pub plain_all : {es : List ℕ} {t : Bool} → length root ≤ 4 → es ≡ four_from root 0 → t ≡ permutes (length root) es → not t ≡ false
-      → i ≤ length root → length root ≤ i → true ≡ is_root root
+  pub root_not : t ≡ false → t ≡ is_root root
   unfolding is_root
-  plain_all {es} {t} few e f q l u = sym (and_both (permutes (length root) root) (each (length root) (λ j. not (minus (get_or root j 0)))) (sym (root_word root es few e) ∙ sym f ∙ not-false t q)
-      (subst (λ (n : ℕ). each n (λ j. not (minus (get_or root j 0))) ≡ true) (omega arith) s.so_far))
-
--- a path's bytes, under way: each before i is 0 or 1
-pub record StepsSoFar (path : List ℕ) (i : ℕ) : Type 0 where
-  pub so_far : each i (λ j. leb (get_or path j 0) 1) ≡ true
-
-pub steps_none : (path : List ℕ) → StepsSoFar path 0
-unfolding each
-steps_none path = record { so_far = refl }
-
-module _ {path : List ℕ} {i : ℕ} (s : StepsSoFar path i) where
-  pub steps_next : get_or path i 0 ≤ 1 → StepsSoFar path (i + 1)
-  steps_next e = record { so_far = each_more i (λ j. leb (get_or path j 0) 1) s.so_far (le-leb (get_or path i 0) 1 e) }
-
-  pub steps_fail : i < length path → 1 < get_or path i 0 → false ≡ is_path path
-  unfolding is_path
-  steps_fail l e = sym (each_fails (length path) (λ j. leb (get_or path j 0) 1) i l (lt-leb (get_or path i 0) 1 e))
-
-  pub steps_all : i ≤ length path → length path ≤ i → true ≡ is_path path
-  unfolding is_path
-  steps_all l u = sym (subst (λ (n : ℕ). each n (λ j. leb (get_or path j 0) 1) ≡ true) (omega arith) s.so_far)
+  root_not q = q ∙ sym (rw (sym (root_word root es few e) ∙ sym told ∙ q) refl)

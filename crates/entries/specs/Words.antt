@@ -1,6 +1,6 @@
 -- Bytes as one word, the first in its lowest byte.
-use Rattle.std.specs.Prelude.{◌≡◌, refl, ◌≢◌, List, [], ◌∷◌, length, set}
-use Rattle.std.proofs.Common.{sym, ◌∙◌, arith, mod-lt, lt_of_lt_of_le, pow_pos, pow_mono}
+use Rattle.std.specs.Prelude.{◌≡◌, refl, List, [], ◌∷◌, length}
+use Rattle.std.proofs.Common.{◌∙◌, arith, mod-lt, lt_of_lt_of_le, pow_pos, pow_mono}
 use Rattle.std.proofs.Math.Path.{ap}
 use Prim.Native.Nat.{ℕ, zero, suc, ◌+◌, ◌-◌, ◌*◌, ◌/◌, ◌%◌, ◌^◌, ◌≤◌, ◌<◌}
 use Rattle.std.proofs.Math.Nat.{div-eq_of_lt}
@@ -8,8 +8,8 @@ use Rattle.std.proofs.Math.Decide.{dec_lt}
 use Rattle.std.specs.Int.Bits.{bit_and, bit_or, bit_xor}
 use Rattle.std.proofs.lemmas.Nat.{and_shr, and_mod, or_shr, or_mod, xor_shr, xor_mod, shl-shr}
 use Rattle.std.proofs.Math.Pow.{field, mod-mod-pow}
-use Rattle.std.proofs.Math.ListN.{get_or, length-set, get_or-eq_default}
-use Rattle.std.proofs.Math.Seq.{get_or-set_same, get_or-set_other}
+use Rattle.std.specs.Int.{w32, to_le_bytes, from_le_bytes}
+use Rattle.std.proofs.Math.ListN.{get_or, get_or-eq_default}
 
 unfoldable pub word_of : List ℕ → ℕ
 word_of [] = 0
@@ -31,6 +31,9 @@ four_at l p (suc (suc (suc (suc m)))) h = absurd (omega arith)
 
 pub bytes_same : {p q r s p' q' r' s' : ℕ} → p ≡ p' → q ≡ q' → r ≡ r' → s ≡ s' → p ∷ q ∷ r ∷ s ∷ [] ≡ p' ∷ q' ∷ r' ∷ s' ∷ []
 bytes_same f g h k = rw (f, g, h, k) refl
+
+pub le_bytes : (w : ℕ) → to_le_bytes w32 w ≡ bytes_of w
+le_bytes w = bytes_same (omega arith) refl refl refl
 
 -- four bytes are those of their word
 pub bytes_of_sum : (a b c e : ℕ) → a < 256 → b < 256 → c < 256 → e < 256 → bytes_of (a + 256 * b + 65536 * c + 16777216 * e) ≡ a ∷ b ∷ c ∷ e ∷ []
@@ -62,10 +65,12 @@ pub record WordOf (a b c e w : ℕ) : Type 0 where
   pub is : w ≡ word_of (a ∷ b ∷ c ∷ e ∷ [])
   pub bytes : bytes_of w ≡ a ∷ b ∷ c ∷ e ∷ []
 
-pub word_of_sum : {a b c e p q r s : ℕ} → (p ≡ a) × (p < 256) → (q ≡ b) × (q < 256) → (r ≡ c) × (r < 256) → (s ≡ e) × (s < 256) → WordOf a b c e (p + 256 * q + 65536 * r + 16777216 * s)
-word_of_sum {a} {b} {c} {e} {p} {q} {r} {s} f g h k = record {
-  is = word_sum a b c e f.0 g.0 h.0 k.0;
-  bytes = bytes_of_sum p q r s f.1 g.1 h.1 k.1 ∙ bytes_same f.0 g.0 h.0 k.0;
+-- as the code makes it
+pub word_of_bytes : {a b c e w : ℕ} → a < 256 → b < 256 → c < 256 → e < 256 → w ≡ from_le_bytes w32 (a ∷ b ∷ c ∷ e ∷ []) → WordOf a b c e w
+unfolding word_of
+word_of_bytes {a} {b} {c} {e} f g h k q = record {
+  is = omega (arith, q);
+  bytes = bytes_same (omega (arith, q)) (omega (arith, q)) (omega (arith, q)) (omega (arith, q));
 }
 
 -- zeros stand behind the first d
@@ -96,15 +101,15 @@ word_at e f g h t = record { is = t.is ∙ ap word_of (bytes_same e f g h); byte
 pub word_byte : {l : List ℕ} {at w : ℕ} → WordAt l at w → (j : ℕ) → at ≤ j → j < at + 4 → get_or (bytes_of w) (j - at) 0 ≡ get_or l j 0
 word_byte {l} {at} t j h u = ap (λ (b : List ℕ). get_or b (j - at) 0) t.bytes ∙ four_at l at (j - at) (omega arith) ∙ ap (λ (x : ℕ). get_or l x 0) (omega arith)
 
-pub none_at : (l : List ℕ) {n : ℕ} → length l ≤ n → 0 ≡ get_or l n 0
-none_at l h = sym (get_or-eq_default l 0 h)
-
 pub byte_at : (w n : ℕ) → n < 4 → w / 2 ^ (8 * n) % 256 ≡ get_or (bytes_of w) n 0
 byte_at w zero h = refl
 byte_at w (suc zero) h = refl
 byte_at w (suc (suc zero)) h = refl
 byte_at w (suc (suc (suc zero))) h = refl
 byte_at w (suc (suc (suc (suc n)))) h = absurd (omega arith)
+
+pub byte_small : (w n : ℕ) → n < 4 → get_or (bytes_of w) n 0 < 256
+byte_small w n h = rw (← byte_at w n h) (mod-lt (w / 2 ^ (8 * n)) (omega arith))
 
 -- the first k as the code keeps them: those behind are shifted out, and the others back
 pub first_of_is : (w : ℕ) {k : ℕ} → k ≤ 4 → FirstOf k (bytes_of w) (bytes_of (w * 2 ^ (8 * (4 - k)) % 2 ^ 32 / 2 ^ (8 * (4 - k))))
@@ -137,59 +142,3 @@ pub record Puts (at : ℕ) (vs l r : List ℕ) : Type 0 where
   pub before : (j : ℕ) → j < at → get_or r j 0 ≡ get_or l j 0
   pub put : (m : ℕ) → m < 4 → get_or r (at + m) 0 ≡ get_or vs m 0
   pub past : (j : ℕ) → at + 4 ≤ j → get_or r j 0 ≡ get_or l j 0
-
-module _ (at : ℕ) (l : List ℕ) (room : at + 4 ≤ length l) (x y z u : ℕ) where
-  a : List ℕ
-  a = set l at x
-
-  b : List ℕ
-  b = set a (at + 1) y
-
-  c : List ℕ
-  c = set b (at + 2) z
-
-  d : List ℕ
-  d = set c (at + 3) u
-
-  length_a : length a ≡ length l
-  unfolding a
-  length_a = length-set l at x
-
-  length_b : length b ≡ length l
-  unfolding b
-  length_b = length-set a (at + 1) y ∙ length_a
-
-  length_c : length c ≡ length l
-  unfolding c
-  length_c = length-set b (at + 2) z ∙ length_b
-
-  other : (j : ℕ) → j ≢ at → j ≢ at + 1 → j ≢ at + 2 → j ≢ at + 3 → get_or d j 0 ≡ get_or l j 0
-  unfolding a b c d
-  other j n o p q = get_or-set_other c (at + 3) j u 0 q ∙ get_or-set_other b (at + 2) j z 0 p ∙ get_or-set_other a (at + 1) j y 0 o ∙ get_or-set_other l at j x 0 n
-
-  each_put : (m : ℕ) → m < 4 → get_or d (at + m) 0 ≡ get_or (x ∷ y ∷ z ∷ u ∷ []) m 0
-  unfolding a b c d
-  each_put zero h = ap (λ (j : ℕ). get_or d j 0) (omega arith) ∙ get_or-set_other c (at + 3) at u 0 (omega arith) ∙ get_or-set_other b (at + 2) at z 0 (omega arith)
-      ∙ get_or-set_other a (at + 1) at y 0 (omega arith) ∙ get_or-set_same l at x 0 (omega arith)
-  each_put (suc zero) h = get_or-set_other c (at + 3) (at + 1) u 0 (omega arith) ∙ get_or-set_other b (at + 2) (at + 1) z 0 (omega arith) ∙ get_or-set_same a (at + 1) y 0 (omega (arith, length_a))
-  each_put (suc (suc zero)) h = get_or-set_other c (at + 3) (at + 2) u 0 (omega arith) ∙ get_or-set_same b (at + 2) z 0 (omega (arith, length_b))
-  each_put (suc (suc (suc zero))) h = get_or-set_same c (at + 3) u 0 (omega (arith, length_c))
-  each_put (suc (suc (suc (suc m)))) h = absurd (omega arith)
-
-  puts_all : Puts at (x ∷ y ∷ z ∷ u ∷ []) l d
-  unfolding d
-  puts_all = record {
-    size = length-set c (at + 3) u ∙ length_c;
-    before = λ j h. other j (omega arith) (omega arith) (omega arith) (omega arith);
-    put = each_put;
-    past = λ j h. other j (omega arith) (omega arith) (omega arith) (omega arith);
-  }
-
-  pub puts_four : Puts at (x ∷ y ∷ z ∷ u ∷ []) l (set (set (set (set l at x) (at + 1) y) (at + 2) z) (at + 3) u)
-  unfolding a b c d
-  puts_four = puts_all
-
--- as the code writes the bytes of a word
-pub puts_word : (w : ℕ) {p q r s at : ℕ} {l : List ℕ} → at + 4 ≤ length l → p ≡ w / 2 ^ 0 % 256 → q ≡ w / 2 ^ 8 % 256 → r ≡ w / 2 ^ 16 % 256 → s ≡ w / 2 ^ 24 % 256
-    → Puts at (bytes_of w) l (set (set (set (set l at p) (at + 1) q) (at + 2) r) (at + 3) s)
-puts_word w {at = at} {l} room e f g h = rw (e, f, g, h) (puts_four at l room (w / 2 ^ 0 % 256) (w / 2 ^ 8 % 256) (w / 2 ^ 16 % 256) (w / 2 ^ 24 % 256))

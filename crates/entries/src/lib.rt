@@ -2,6 +2,7 @@
 #![tactic(auto)]
 
 pub mod check; // check.rt: the walks that test a body
+pub mod code; // code.rt: a code that passes
 pub mod words; // words.rt: bytes as one word
 
 ghost use Rattle.std.specs.Prelude.{◌≡◌, ◌+◌, ◌-◌, ◌*◌, ◌^◌, ◌≤◌, ◌<◌, ℤ, neg_ℤ};
@@ -15,10 +16,7 @@ ghost use Rattle.entries.specs.Masks.{mark_of, negated_alone};
 pub fn axis_of(e: u8) -> u8
     ensures { result ≡ axis e }
 {
-    if e < 128 {
-        return e;
-    }
-    e - 128
+    if e < 128 { e } else { e - 128 }
 }
 
 // The entry has a minus.
@@ -32,11 +30,7 @@ pub fn is_minus(e: u8) -> bool
 pub fn signed_of(e: u8) -> i8
     ensures { result ≡ signed_of e }
 {
-    if e < 128 {
-        return e as i8;
-    }
-    let a = (e - 128) as i8;
-    -a
+    if e < 128 { e as i8 } else { -((e - 128) as i8) }
 }
 
 // A signed number as an entry. No axis is 0: with a minus for it a negation is one flip of a bit, and costs no test.
@@ -44,11 +38,7 @@ pub fn byte_of(x: i8) -> u8
     requires { SFits w8 (neg_ℤ x) }
     ensures { result ≡ byte_of x }
 {
-    if 0 < x {
-        return x as u8;
-    }
-    let a = -x;
-    128 + (a as u8)
+    if 0 < x { x as u8 } else { 128 + (-x) as u8 }
 }
 
 // The entry with the other sign.
@@ -56,10 +46,10 @@ pub fn negate(e: u8) -> u8
     ensures { result ≡ negated e }
 {
     if 128 <= e {
-        return e - 128;
+        e - 128
+    } else {
+        byte_of(-signed_of(e))
     }
-    let x = signed_of(e);
-    byte_of(-x)
 }
 
 // The orthant byte is high on the axis: its bit at axis - 1, by shift and mask.
@@ -75,7 +65,7 @@ fn mark_of(e: u8) -> u32
     requires { axis e ≤ 8 }
     ensures { result ≡ mark_of (axis e) }
 {
-    (1 << words::wide(axis_of(e))) / 2
+    (1 << axis_of(e)) / 2
 }
 
 // That of an entry with a minus; 0 where it has none.
@@ -83,5 +73,5 @@ fn minus_mark_of(e: u8) -> u32
     requires { axis e ≤ 8 }
     ensures { result ≡ mark_of (axis (negated_alone e)) }
 {
-    (words::wide(e >> 7) << words::wide(axis_of(e))) / 2
+    (u32::from(e >> 7) << axis_of(e)) / 2
 }

@@ -2,12 +2,6 @@
 ghost use Rattle.std.specs.Prelude.{◌≡◌, ◌+◌, ◌/◌, ◌%◌, ◌^◌, ◌≤◌, ◌<◌, length, get_or};
 ghost use Rattle.entries.specs.Words.{bytes_of, FirstOf, WordOf, WordAt, Puts};
 
-pub fn wide(x: u8) -> u32
-    ensures { (result ≡ x) × (result < 256) }
-{
-    x as u32
-}
-
 // The byte of a word that begins at a bit.
 pub fn byte(w: u32, bit: u32) -> u8
     requires { bit < 32 }
@@ -37,7 +31,7 @@ pub fn first(w: u32, k: usize) -> u32
 pub fn word_of(a: u8, b: u8, c: u8, d: u8) -> u32
     ensures { WordOf a b c d result }
 {
-    wide(a) + 256 * wide(b) + 65536 * wide(c) + 16777216 * wide(d)
+    u32::from_le_bytes([a, b, c, d])
 }
 
 // That of the four bytes from a place on: one read.
@@ -52,10 +46,7 @@ pub fn word_at(bytes: &[u8], at: usize) -> u32
 fn byte_or_none(bytes: &[u8], n: usize) -> u8
     ensures { result ≡ get_or bytes.now n 0 }
 {
-    if bytes.len() <= n {
-        return 0;
-    }
-    bytes[n]
+    bytes.get(n).copied().unwrap_or(0)
 }
 
 // That of the first four bytes, of as many as there are.
@@ -75,8 +66,5 @@ pub fn put(w: u32, out: &mut [u8], at: usize)
     requires { at + 4 ≤ length out.old }
     ensures { Puts at (bytes_of w) out.old out.new }
 {
-    out[at] = byte(w, 0);
-    out[at + 1] = byte(w, 8);
-    out[at + 2] = byte(w, 16);
-    out[at + 3] = byte(w, 24);
+    out[at..at + 4].copy_from_slice(&w.to_le_bytes());
 }

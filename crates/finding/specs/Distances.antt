@@ -1,6 +1,9 @@
 -- Distances on the line, in whole stretches and a part of one: compared, subtracted, added up.
-use Rattle.std.specs.Prelude.{◌≡◌, Bool, true, false, ℕ, suc, ◌+◌, ◌-◌, ◌*◌, ◌^◌, ◌≤◌, ◌<◌, ltb, leb}
-use Rattle.std.proofs.Common.{ap, arith, add-mul, mul-le-mul_right, ltb-true, ltb-false, leb-true, leb-false}
+use Rattle.std.specs.Prelude.{◌≡◌, Bool, true, false, Option, Some, ℕ, suc, ◌+◌, ◌-◌, ◌*◌, ◌^◌, ◌≤◌, ◌<◌}
+use Rattle.std.proofs.Common.{ap, arith, add-mul, mul-le-mul_right}
+use Rattle.std.specs.declared.cmp.Ordering.{Ordering}
+use Rattle.std.specs.Ordering.{partial_ordering_then, nat_cmp, partial_le, partial_gt}
+use Rattle.std.proofs.lemmas.Bool.Decides.{nat_tests}
 use Rattle.std.proofs.Math.Decide.{dec_lt}
 use Rattle.finding.specs.declared.Ahead.{Ahead}
 use Rattle.finding.specs.Finding.{distance}
@@ -13,23 +16,21 @@ pub data NoLater (a b : Ahead) : Type 0 where
   lower : a.stretches < b.stretches → NoLater a b
   level : a.stretches ≡ b.stretches → a.part ≤ b.part → NoLater a b
 
-pub record NoLaterIs (a b : Ahead) (r : Bool) : Type 0 where
-  pub holds : r ≡ true → NoLater a b
-  pub fails : r ≡ false → NoLater a b → ⊥
+-- as the order of their fields tells it
+abbrev order : Ahead → Ahead → Option Ordering
+order a b = partial_ordering_then (Some (nat_cmp a.stretches b.stretches)) (Some (nat_cmp a.part b.part))
 
-pub no_later_other : {a b : Ahead} → (a.stretches ≡ b.stretches → ⊥) → NoLaterIs a b (ltb a.stretches b.stretches)
-no_later_other {a} {b} n = record { holds = λ e. lower (ltb-true a.stretches b.stretches e); fails = λ e. none (ltb-false a.stretches b.stretches e) }
-  where
-    none : b.stretches ≤ a.stretches → NoLater a b → ⊥
-    none h (lower l) = omega arith
-    none h (level e l) = n e
+abbrev pub no_later : Ahead → Ahead → Bool
+no_later = partial_le order
 
-pub no_later_same : {a b : Ahead} → a.stretches ≡ b.stretches → NoLaterIs a b (leb a.part b.part)
-no_later_same {a} {b} e = record { holds = λ t. level e (leb-true a.part b.part t); fails = λ t. none (leb-false a.part b.part t) }
-  where
-    none : b.part < a.part → NoLater a b → ⊥
-    none h (lower l) = omega arith
-    none h (level q l) = omega arith
+abbrev pub later : Ahead → Ahead → Bool
+later = partial_gt order
+
+pub no_later_is : (a b : Ahead) {r : Bool} → r ≡ no_later a b → r ≡ true → NoLater a b
+no_later_is a b e t = grind (arith, nat_tests)
+
+pub later_is : (a b : Ahead) {r : Bool} → r ≡ later a b → (r ≡ true → NoLater a b → ⊥) × (r ≡ false → NoLater a b)
+later_is a b e = grind (arith, nat_tests)
 
 -- as distances, for parts of a stretch; the first may be a whole one
 pub no_later_far : {a b : Ahead} (S : ℕ) → a.part ≤ S → NoLater a b → distance S a ≤ distance S b

@@ -46,9 +46,9 @@ pub record StandsAt (d : ℕ) (c : TreeCell) (p : Position) : Type 0 where
 abbrev pub distance : ℕ → Ahead → ℕ
 distance stretch a = a.stretches * stretch + a.part
 
--- entry e of an index: three numbers
-abbrev pub entry_in : List ℕ → ℕ → Entry
-entry_in index e = record { offset = get_or index (3 * e) 0; place = record { stretches = get_or index (3 * e + 1) 0; part = get_or index (3 * e + 2) 0 } }
+-- entry e of an index
+abbrev pub entry_in : List Entry → ℕ → Entry
+entry_in index e = get_or index e (record { offset = 0; place = record { stretches = 0; part = 0 } })
 
 -- an entry belongs to a record of a sheet of d axes: where it begins, and how far its leaf is from the front of the line
 pub record EntryIs (d : ℕ) {mark : List ℕ} {width : ℕ} {sheet : List ℕ} {n : ℕ} (g : GoodSheet mark width sheet n) (number : ℕ) (e : Entry) : Type 0 where
@@ -57,18 +57,18 @@ pub record EntryIs (d : ℕ) {mark : List ℕ} {width : ℕ} {sheet : List ℕ} 
   pub part_small : e.place.part < 2 ^ greatest_depth d
 
 -- so many entries belong to a sheet of d axes: the first to record number `first`, each next to one a stride behind
-pub record RunIs (mark : List ℕ) (width : ℕ) (sheet : List ℕ) (d : ℕ) (index : List ℕ) (r : Run) : Type 0 where
+pub record RunIs (mark : List ℕ) (width : ℕ) (sheet : List ℕ) (d : ℕ) (index : List Entry) (r : Run) : Type 0 where
   pub count : ℕ
   pub good : GoodSheet mark width sheet count
   pub axes : good.dimension ≡ d
   pub some : 0 < r.entries
-  pub room : 3 * (r.at + r.entries) ≤ length index
+  pub room : r.at + r.entries ≤ length index
   pub goes : 1 ≤ r.stride
   pub entry : (e : ℕ) → e < r.entries → EntryIs d good (r.first + e * r.stride) (entry_in index (r.at + e))
 
 -- an index belongs to a sheet of d axes: the coarse entries begin with the first record and leave no more than a stride behind the last
 -- one, and the fine ones stand behind them
-pub record Indexed (mark : List ℕ) (width : ℕ) (sheet : List ℕ) (d : ℕ) (index : List ℕ) (r : Spread) : Type 0 where
+pub record Indexed (mark : List ℕ) (width : ℕ) (sheet : List ℕ) (d : ℕ) (index : List Entry) (r : Spread) : Type 0 where
   pub coarse : RunIs mark width sheet d index r.coarse
   pub front : r.coarse.first ≡ 0
   pub all : {n : ℕ} → GoodSheet mark width sheet n → n ≤ r.coarse.entries * r.coarse.stride
@@ -76,7 +76,7 @@ pub record Indexed (mark : List ℕ) (width : ℕ) (sheet : List ℕ) (d : ℕ) 
   pub apart : r.coarse.at + r.coarse.entries ≤ r.fine.at
 
 -- an index that belongs to the sheet, and a place before the end of the line
-pub record FindReady (mark : List ℕ) (width : ℕ) (sheet : List ℕ) (d : ℕ) (index : List ℕ) (spread : Spread) (p : Position) : Type 0 where
+pub record FindReady (mark : List ℕ) (width : ℕ) (sheet : List ℕ) (d : ℕ) (index : List Entry) (spread : Spread) (p : Position) : Type 0 where
   pub indexed : Indexed mark width sheet d index spread
   pub root_small : p.root < length (roots d)
   pub start_small : p.start < 2 ^ greatest_depth d
@@ -86,7 +86,7 @@ pub record FoundIs (mark : List ℕ) (width : ℕ) (sheet : List ℕ) (d : ℕ) 
   pub count : ℕ
   pub good : GoodSheet mark width sheet count
   pub axes : good.dimension ≡ d
-  pub among : (c : TreeCell) → GoodCell c → StandsAt d c p → Among good.cells c r.number r.kind
-  pub small : r.number < length good.cells
-  pub at : From good r.number r.offset
-  pub depth_is : r.depth ≡ length (leaf_in good.cells r.number).path
+  pub among : (c : TreeCell) → GoodCell c → StandsAt d c p → Among good.cells c r.sought.number r.kind
+  pub small : r.sought.number < length good.cells
+  pub at : From good r.sought.number r.sought.offset
+  pub depth_is : r.sought.depth ≡ length (leaf_in good.cells r.sought.number).path

@@ -1,7 +1,7 @@
 -- The record at an offset, as those who read it know it: its depth is read, and gives the size of its leaf's part and the record's length.
 use Rattle.std.specs.Prelude.{◌≡◌, true, List, ℕ, suc, ◌+◌, ◌-◌, ◌*◌, ◌^◌, ◌≤◌, ◌<◌, length, take, drop}
 use Rattle.std.proofs.Math.Path.{refl}
-use Rattle.std.proofs.Common.{ap, ◌∙◌, subst, arith, length-drop, pow_mono}
+use Rattle.std.proofs.Common.{ap, ◌∙◌, subst, arith, pow_mono}
 use Rattle.dimension.specs.Sizes.{is_dimension, greatest_depth, code_length, most_axes}
 use Rattle.dimension.specs.Laws.{dimension, depth_small, code_longest, longest_is, halvings_few}
 use Rattle.bisection.specs.Roots.{roots}
@@ -17,10 +17,10 @@ use Rattle.finding.specs.Walk.{From, Here, here, leaf_good}
 abbrev pub onward : List ℕ → ℕ → List ℕ
 onward sheet at = take (length sheet - at) (drop at sheet)
 
--- a record's length: no code is long
-pub code_read : {d D a code : ℕ} → a ≡ d → code ≡ code_length a D → is_dimension d ≡ true → D ≤ greatest_depth d → (code ≡ code_length d D) × (code ≤ 21)
+-- no code is long
+pub code_few : (d : ℕ) {D : ℕ} → is_dimension d ≡ true → D ≤ greatest_depth d → code_length d D ≤ 21
 unfolding most_axes
-code_read {d} {D} e f i l = (f ∙ ap (λ (n : ℕ). code_length n D) e, omega (arith, f, ap (λ (n : ℕ). code_length n D) e, code_longest d D (dimension d i) l, longest_is, halvings_few))
+code_few d {D} i l = omega (arith, code_longest d D (dimension d i) l, longest_is, halvings_few)
 
 pub good_axes : {mark : List ℕ} {width : ℕ} {sheet : List ℕ} {n d : ℕ} (g : GoodSheet mark width sheet n) → g.dimension ≡ d → is_dimension d ≡ true
 good_axes g e = subst (λ (n : ℕ). is_dimension n ≡ true) e g.has_dimension
@@ -29,23 +29,19 @@ good_axes g e = subst (λ (n : ℕ). is_dimension n ≡ true) e g.has_dimension
 pub good_total : {mark : List ℕ} {width : ℕ} {sheet : List ℕ} {n d : ℕ} (g : GoodSheet mark width sheet n) → g.dimension ≡ d → sizes_to (greatest_depth d) g.cells (length g.cells) ≡ length (roots d) * 2 ^ greatest_depth d
 good_total g e = subst (λ (n : ℕ). sizes_to (greatest_depth n) g.cells (length g.cells) ≡ length (roots n) * 2 ^ greatest_depth n) e (omega (arith, tiles_total (good_tiles g)))
 
-pub depth_sixty : {d a deepest : ℕ} → is_dimension d ≡ true → a ≡ d → deepest ≡ greatest_depth a → deepest ≤ 60
-depth_sixty {d} i e f = omega (arith, f, ap greatest_depth e, depth_small d (dimension d i))
-
 pub good_stretch : (d : ℕ) → is_dimension d ≡ true → 2 * 2 ^ greatest_depth d < 2 ^ 64
 good_stretch d i = omega (arith, pow_mono {i = greatest_depth d} {j = 60} (depth_small d (dimension d i)))
 
 -- a record of a good sheet of d axes
-pub record AtRecord (mark : List ℕ) (width : ℕ) (sheet : List ℕ) (d deepest number offset : ℕ) : Type 0 where
+pub record AtRecord (mark : List ℕ) (width : ℕ) (sheet : List ℕ) (d number offset : ℕ) : Type 0 where
   pub count : ℕ
   pub good : GoodSheet mark width sheet count
   pub axes : good.dimension ≡ d
   pub long : length sheet < 2 ^ 64
-  pub deepest_is : deepest ≡ greatest_depth d
   pub small : number < length good.cells
   pub at : From good number offset
 
-module _ {mark : List ℕ} {width : ℕ} {sheet : List ℕ} {d deepest number offset : ℕ} (r : AtRecord mark width sheet d deepest number offset) where
+module _ {mark : List ℕ} {width : ℕ} {sheet : List ℕ} {d number offset : ℕ} (r : AtRecord mark width sheet d number offset) where
   it : Here r.good number offset
   it = here r.good r.small r.at
 
@@ -54,12 +50,6 @@ module _ {mark : List ℕ} {width : ℕ} {sheet : List ℕ} {d deepest number of
 
   pub record_two : offset + length mark + 2 ≤ length sheet
   record_two = it.two
-
-  pub record_behind : offset + length mark ≤ length sheet
-  record_behind = omega (arith, record_two)
-
-  pub record_code : 2 ≤ length (onward sheet (offset + length mark))
-  record_code = rw (part_all sheet (offset + length mark)) (omega (arith, record_two, length-drop (offset + length mark) sheet))
 
   pub record_stretch : 2 * 2 ^ greatest_depth d < 2 ^ 64
   record_stretch = good_stretch d record_known
@@ -72,18 +62,12 @@ module _ {mark : List ℕ} {width : ℕ} {sheet : List ℕ} {d deepest number of
     record_deep = let c = leaf_good r.good number r.small in
         omega (arith, record_depth, subst (λ (n : ℕ). length (leaf_in r.good.cells number).path ≤ greatest_depth n) (c.1 ∙ r.axes) c.0.good_path.depth)
 
-    pub record_above : depth ≤ deepest
-    record_above = omega (arith, record_deep, r.deepest_is)
-
-    pub record_power : deepest - depth ≤ 60
-    record_power = omega (arith, r.deepest_is, depth_small d (dimension d record_known))
-
-    module _ {size : ℕ} (power : size ≡ 2 ^ (deepest - depth)) where
+    module _ {size : ℕ} (power : size ≡ 2 ^ (greatest_depth d - depth)) where
       pub record_size : size ≡ size_of (greatest_depth d) (leaf_in r.good.cells number).path
-      record_size = unfold size_of in power ∙ rw (r.deepest_is, record_depth) refl
+      record_size = unfold size_of in power ∙ rw record_depth refl
 
       pub record_part : size ≤ 2 ^ greatest_depth d
-      record_part = rw (power, ← r.deepest_is) (pow_mono {i = deepest - depth} {j = deepest} (omega arith))
+      record_part = rw power (pow_mono {i = greatest_depth d - depth} {j = greatest_depth d} (omega arith))
 
     module _ {step : ℕ} (is_step : step ≡ length mark + (code_length d depth + width * suc d)) where
       step_is : step ≡ length mark + code_length r.good.dimension (length (leaf_in r.good.cells number).path) + width * suc r.good.dimension
@@ -97,9 +81,6 @@ module _ {mark : List ℕ} {width : ℕ} {sheet : List ℕ} {d deepest number of
 
       pub record_less : length sheet - (offset + step) < length sheet - offset
       record_less = unfold code_length in omega (arith, record_room, is_step, r.at.inside)
-
-      pub record_count : suc number ≤ length sheet
-      record_count = omega (arith, r.at.few, record_two)
 
       pub record_next : From r.good (suc number) (offset + step)
       record_next = rw step_is it.next

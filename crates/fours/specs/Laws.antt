@@ -1,7 +1,7 @@
 -- The laws of entries by value: one for each function, and what a turn does to a signed permutation that they hold.
-use Rattle.std.specs.Prelude.{◌≡◌, false, cond, T, ltb, eqb, length, get_or, drop}
+use Rattle.std.specs.Prelude.{◌≡◌, cond, ltb, eqb, length, get_or, drop}
 use Rattle.std.proofs.Math.Path.{refl, sym, ap}
-use Rattle.std.proofs.Common.{◌∙◌, subst, arith, zero-add, length-append, length-drop, take-append-drop, take_at, drop-drop, get_or-drop, get_or-take, get_or-append-add, length-take-le, eq-eqb, ne_eqb, eqb-true, lt-ltb, le-ltb}
+use Rattle.std.proofs.Common.{◌∙◌, arith, zero-add, length-append, length-drop, take-append-drop, take_at, drop-drop, get_or-drop, get_or-take, get_or-append-add, length-take-le, ne_eqb}
 use mathlib.Core.List.{List, [], ◌∷◌, ◌++◌, append_assoc}
 use Prim.Native.Nat.{ℕ, zero, suc, ◌+◌, ◌-◌, ◌≤◌, ◌<◌}
 use Rattle.std.proofs.Math.ListN.{take, set, get_or-append}
@@ -12,18 +12,7 @@ use Rattle.bisection.proofs.Theorems.Entries.{turned_append, unturned_append, si
 use Rattle.fours.specs.declared.Four.{Four}
 use Rattle.entries.specs.Walks.{place_in}
 use Rattle.entries.specs.Words.{NoneBehind}
-use Rattle.fours.specs.Fours.{four, no_entries, Holds, SameFour}
-
--- the entry that a place has
-entry_all : (e : Four) (n : ℕ) → n < 4 → cond (eqb n 0) e.first (cond (eqb n 1) e.second (cond (eqb n 2) e.third e.fourth)) ≡ get_or (four e) n 0
-entry_all e zero h = refl
-entry_all e (suc zero) h = refl
-entry_all e (suc (suc zero)) h = refl
-entry_all e (suc (suc (suc zero))) h = refl
-entry_all e (suc (suc (suc (suc n)))) h = absurd (omega arith)
-
-pub entry_is : (e : Four) {n x y z : ℕ} → n < 4 → z ≡ cond (eqb n 2) e.third e.fourth → y ≡ cond (eqb n 1) e.second z → x ≡ cond (eqb n 0) e.first y → x ≡ get_or (four e) n 0
-entry_is e {n} h f g k = rw (k, g, f) (entry_all e n h)
+use Rattle.fours.specs.Fours.{four, no_entries, Holds}
 
 abbrev pub four_of : ℕ → ℕ → ℕ → ℕ → Four
 four_of a b c d = record { first = a; second = b; third = c; fourth = d }
@@ -56,13 +45,6 @@ pub step_is : (e t : Four) (n b : ℕ) → four t ≡ turned (suc n) (four e)
 unfolding stepped
 step_is e t n zero q = refl
 step_is e t n (suc b) q = rw (ne_eqb (suc b) 0 (λ z. absurd (omega arith))) q
-
--- an entry, where the dimension has it
-pub entry_none : (d n x : ℕ) → d ≤ n → 0 ≡ cond (ltb n d) x 0
-entry_none d n x h = rw (le-ltb n d h) refl
-
-pub entry_some : (d n x : ℕ) → n < d → x ≡ cond (ltb n d) x 0
-entry_some d n x h = rw (lt-ltb n d h) refl
 
 -- the entries from a place on, read and written
 start : (l : List ℕ) (d : ℕ) (e : Four) → 2 ≤ d → d ≤ 4 → d ≤ length l
@@ -117,16 +99,6 @@ module _ (l : List ℕ) (at d : ℕ) (two : 2 ≤ d) (few : d ≤ 4) (r : at + d
     unfolding w
     written_are = ap (λ (i : ℕ). set (set (set (set l (at + place_in 3 d) e.fourth) (at + place_in 2 d) e.third) (at + 1) e.second) i e.first) here
         ∙ sym (take-append-drop at w) ∙ rw (before, behind) (sym (append_assoc (take at l) (take d (four e)) (drop (at + d) l)))
-
--- the same entries
-pub same_not : (a b : Four) (i : ℕ) → (get_or (four a) i 0 ≡ get_or (four b) i 0 → ⊥) → SameFour a b false
-same_not a b i n = record { equal = λ e. absurd (subst T (sym e) tt); told = λ e. absurd (n (ap (λ (l : List ℕ). get_or l i 0) e)) }
-
-pub same_last : (a b : Four) → a.first ≡ b.first → a.second ≡ b.second → a.third ≡ b.third → SameFour a b (eqb a.fourth b.fourth)
-same_last a b e f g = record {
-  equal = λ h. rw (e, f, g, eqb-true a.fourth b.fourth h) refl;
-  told = λ h. eq-eqb a.fourth b.fourth (ap (λ (l : List ℕ). get_or l 3 0) h);
-}
 
 -- entries that hold a signed permutation
 module _ {d : ℕ} {e : Four} {es : List ℕ} (h : Holds d e es) where

@@ -1,6 +1,6 @@
 -- Entries as one word, the first in its lowest byte.
 use Rattle.std.specs.Prelude.{◌≡◌, refl, Bool, true, false, cond, List, ◌∷◌, ◌++◌, length, get_or, take}
-use Rattle.std.proofs.Common.{sym, ◌∙◌, arith, mod-lt, mod-eq_of_lt, pow_pos, Fits}
+use Rattle.std.proofs.Common.{◌∙◌, arith, mod-lt, mod-eq_of_lt, pow_pos, Fits}
 use Rattle.std.proofs.Math.Path.{ap}
 use Prim.Native.Nat.{ℕ, zero, suc, ◌+◌, ◌-◌, ◌*◌, ◌/◌, ◌%◌, ◌^◌, ◌≤◌, ◌<◌}
 use Rattle.std.proofs.Math.ListN.{drop}
@@ -10,20 +10,14 @@ use Rattle.bisection.specs.Codes.{axis, minus, high, negated}
 use Rattle.bisection.specs.Refusals.{same_sign}
 use Rattle.bisection.specs.Theorems.Entries.{unturned}
 use Rattle.bisection.specs.Theorems.Passing.{unstepped}
-use Rattle.entries.specs.Words.{word_of, bytes_of, four_from, bytes_of_sum, WordOf}
+use Rattle.entries.specs.Words.{word_of, bytes_of, four_from, bytes_same, bytes_of_sum, byte_small}
 use Rattle.fours.specs.declared.Four.{Four}
 use Rattle.fours.specs.Fours.{four, no_entries, BackIs}
-use Rattle.fours.specs.Laws.{four_of, entries_are}
+use Rattle.fours.specs.Laws.{entries_are}
 
 pub record WordIs (e : Four) (w : ℕ) : Type 0 where
   pub is : w ≡ word_of (four e)
   pub bytes : four e ≡ bytes_of w
-
-same : {p q r s p' q' r' s' : ℕ} → p ≡ p' → q ≡ q' → r ≡ r' → s ≡ s' → four (four_of p q r s) ≡ four (four_of p' q' r' s')
-same f g h k = rw (f, g, h, k) refl
-
-pub word_is : (e : Four) {w : ℕ} → WordOf e.first e.second e.third e.fourth w → WordIs e w
-word_is e t = record { is = t.is; bytes = sym t.bytes }
 
 -- the entries of a code, from the four bytes that end with the last of them
 module _ (l : List ℕ) (known : (i : ℕ) → Fits w8 (get_or l i 0)) where
@@ -35,9 +29,9 @@ module _ (l : List ℕ) (known : (i : ℕ) → Fits w8 (get_or l i 0)) where
   unfolding word_of
   entries_within zero two few room e = absurd (omega arith)
   entries_within (suc zero) two few room e = absurd (omega arith)
-  entries_within (suc (suc zero)) two few room e = same (omega (arith, near 0)) (omega (arith, near 0)) (omega (arith, near 0)) (omega (arith, near 0)) ∙ entries_are l 2 2 two few room
-  entries_within (suc (suc (suc zero))) two few room e = same (omega (arith, near 1)) (omega (arith, near 1)) (omega (arith, near 1)) (omega (arith, near 1)) ∙ entries_are l 2 3 two few room
-  entries_within (suc (suc (suc (suc zero)))) two few room e = same (omega (arith, near 2)) (omega (arith, near 2)) (omega (arith, near 2)) (omega (arith, near 2)) ∙ entries_are l 2 4 two few room
+  entries_within (suc (suc zero)) two few room e = bytes_same (omega (arith, near 0)) (omega (arith, near 0)) (omega (arith, near 0)) (omega (arith, near 0)) ∙ entries_are l 2 2 two few room
+  entries_within (suc (suc (suc zero))) two few room e = bytes_same (omega (arith, near 1)) (omega (arith, near 1)) (omega (arith, near 1)) (omega (arith, near 1)) ∙ entries_are l 2 3 two few room
+  entries_within (suc (suc (suc (suc zero)))) two few room e = bytes_same (omega (arith, near 2)) (omega (arith, near 2)) (omega (arith, near 2)) (omega (arith, near 2)) ∙ entries_are l 2 4 two few room
   entries_within (suc (suc (suc (suc (suc d))))) two few room e = absurd (omega arith)
 
 -- the first n + 1 entries of a word turned right: those above them stay, the last of them comes to the first place
@@ -66,13 +60,6 @@ rest_of (suc (suc (suc (suc n)))) l low h p q = absurd (omega arith)
 
 -- by cases of n, in which all powers are numbers
 module _ (w : ℕ) (h : w < 2 ^ 32) where
-  byte_small : (n : ℕ) → n < 4 → get_or (bytes_of w) n 0 < 256
-  byte_small zero l = omega arith
-  byte_small (suc zero) l = omega arith
-  byte_small (suc (suc zero)) l = omega arith
-  byte_small (suc (suc (suc zero))) l = omega arith
-  byte_small (suc (suc (suc (suc n)))) l = absurd (omega arith)
-
   -- the front of n + 1 entries: the last of them, and those before it
   front_parts : (n : ℕ) → n < 4 → w % 2 ^ (8 * n + 8) ≡ get_or (bytes_of w) n 0 * 2 ^ (8 * n) + w % 2 ^ (8 * n)
   front_parts zero l = omega arith
@@ -108,10 +95,10 @@ module _ (w : ℕ) (h : w < 2 ^ 32) where
       by (suc (suc (suc (suc n)))) l x y k = absurd (omega arith)
 
   last_is : (n : ℕ) → n < 4 → last_in n w % 256 ≡ get_or (bytes_of w) n 0
-  last_is n l = rw (last_in_at n l) (mod-eq_of_lt (byte_small n l))
+  last_is n l = rw (last_in_at n l) (mod-eq_of_lt (byte_small w n l))
 
   rest_in_is : (n : ℕ) → n < 4 → (w - above_in n w) * 2 ^ 8 % 2 ^ 32 ≡ last_in n w * 2 ^ (8 * n) % 2 ^ 32 * 2 ^ 8 % 2 ^ 32 + 256 * (w % 2 ^ (8 * n))
-  rest_in_is n l = rw (last_in_at n l, front_is n l) (rest_of n (get_or (bytes_of w) n 0) (w % 2 ^ (8 * n)) l (byte_small n l) (low_small n))
+  rest_in_is n l = rw (last_in_at n l, front_is n l) (rest_of n (get_or (bytes_of w) n 0) (w % 2 ^ (8 * n)) l (byte_small w n l) (low_small n))
 
   pub last_under : (n : ℕ) → n < 4 → last_in n w * 2 ^ (8 * n) % 2 ^ 32 * 2 ^ 8 % 2 ^ 32 ≤ (w - above_in n w) * 2 ^ 8 % 2 ^ 32
   last_under n l = omega (arith, rest_in_is n l)
@@ -163,13 +150,13 @@ module _ (w : ℕ) (h : w < 2 ^ 32) where
 
     bytes_by : (n : ℕ) → n < 4 → bytes_of (above_in n w + 256 * (w % 2 ^ (8 * n)) + m) ≡ m ∷ (take n (bytes_of w) ++ drop (suc n) (bytes_of w))
     bytes_by zero l = ap bytes_of (sum_one (above_in 0 w) (w % 2 ^ 8) (w % 2 ^ (8 * 0)) first second third fourth w (above_is 0 l) low_one low_none parts)
-        ∙ bytes_of_sum m second third fourth small (byte_small 1 (omega arith)) (byte_small 2 (omega arith)) (byte_small 3 (omega arith))
+        ∙ bytes_of_sum m second third fourth small (byte_small w 1 (omega arith)) (byte_small w 2 (omega arith)) (byte_small w 3 (omega arith))
     bytes_by (suc zero) l = ap bytes_of (sum_two (above_in 1 w) (w % 2 ^ 16) (w % 2 ^ 8) first second third fourth w (above_is 1 l) low_two low_one parts)
-        ∙ bytes_of_sum m first third fourth small (byte_small 0 (omega arith)) (byte_small 2 (omega arith)) (byte_small 3 (omega arith))
+        ∙ bytes_of_sum m first third fourth small (byte_small w 0 (omega arith)) (byte_small w 2 (omega arith)) (byte_small w 3 (omega arith))
     bytes_by (suc (suc zero)) l = ap bytes_of (sum_three (above_in 2 w) (w % 2 ^ 24) (w % 2 ^ 16) first second third fourth w (above_is 2 l) low_three low_two parts)
-        ∙ bytes_of_sum m first second fourth small (byte_small 0 (omega arith)) (byte_small 1 (omega arith)) (byte_small 3 (omega arith))
+        ∙ bytes_of_sum m first second fourth small (byte_small w 0 (omega arith)) (byte_small w 1 (omega arith)) (byte_small w 3 (omega arith))
     bytes_by (suc (suc (suc zero))) l = ap bytes_of (sum_four (above_in 3 w) (w % 2 ^ 32) (w % 2 ^ 24) first second third fourth w (above_is 3 l) (mod-eq_of_lt h) low_three parts)
-        ∙ bytes_of_sum m first second third small (byte_small 0 (omega arith)) (byte_small 1 (omega arith)) (byte_small 2 (omega arith))
+        ∙ bytes_of_sum m first second third small (byte_small w 0 (omega arith)) (byte_small w 1 (omega arith)) (byte_small w 2 (omega arith))
     bytes_by (suc (suc (suc (suc n)))) l = absurd (omega arith)
 
     fits_by : (n : ℕ) → n < 4 → above_in n w + 256 * (w % 2 ^ (8 * n)) + m < 2 ^ 32

@@ -12,7 +12,7 @@ ghost use Rattle.fours.specs.Fours.{four, no_entries, part_of, SameFour, OwnIs};
 
 use entries::check;
 
-#[derive(Clone, Copy)]
+#[derive(Clone, Copy, PartialEq, Eq)]
 pub struct Four {
     pub first: u8,
     pub second: u8,
@@ -20,53 +20,34 @@ pub struct Four {
     pub fourth: u8,
 }
 
-// One of two bytes.
-pub fn pick(b: bool, x: u8, y: u8) -> u8
-    ensures { result ≡ cond b x y }
-{
-    if b {
-        return x;
-    }
-    y
-}
-
 // The entry at a place.
 pub fn entry(e: Four, n: usize) -> u8
     requires { n < 4 }
     ensures { result ≡ get_or (four e) n 0 }
 {
-    pick(
+    common::pick(
         n == 0,
         e.first,
-        pick(n == 1, e.second, pick(n == 2, e.third, e.fourth)),
+        common::pick(n == 1, e.second, common::pick(n == 2, e.third, e.fourth)),
     )
 }
 
-// The entry at a place behind another, 0 where the dimension has none. A branch, since the dimension is foreseen.
-fn entry_in(bytes: &[u8], at: usize, n: usize, d: usize) -> u8
-    requires { (n < 4) × (at + d ≤ length bytes.now) }
-    ensures { result ≡ cond (ltb n d) (get_or bytes.now (at + n) 0) 0 }
-{
-    if d <= n {
-        return 0;
-    }
-    bytes[at + n]
-}
-
-// The d entries that stand from a place on.
+// The d entries that stand from a place on, and 0 for those that the dimension lacks. A branch, since the dimension is foreseen.
 pub fn entries_of(bytes: &[u8], at: usize, d: usize) -> Four
     requires { (2 ≤ d) × (d ≤ 4) × (at + d ≤ length bytes.now) }
     ensures { four result ≡ paste no_entries 0 (drop at bytes.now) d }
 {
+    let entries = &bytes[at..at + d];
     Four {
-        first: bytes[at],
-        second: bytes[at + 1],
-        third: entry_in(bytes, at, 2, d),
-        fourth: entry_in(bytes, at, 3, d),
+        first: entries[0],
+        second: entries[1],
+        third: entries.get(2).copied().unwrap_or(0),
+        fourth: entries.get(3).copied().unwrap_or(0),
     }
 }
 
 // Writes the first d of them from a place on. One that the dimension lacks goes to the first place, and is overwritten.
+// A copy of a slice of d bytes would call memcpy, which the C library may not need (.ci/symbols).
 pub fn write(e: Four, d: usize, out: &mut [u8], at: usize)
     requires { (2 ≤ d) × (d ≤ 4) × (at + d ≤ length out.old) }
     ensures { out.new ≡ paste out.old at (four e) d }
@@ -77,20 +58,11 @@ pub fn write(e: Four, d: usize, out: &mut [u8], at: usize)
     out[at] = e.first;
 }
 
-// The entries are the same, one by one.
+// The entries are the same: `==`, with what it says of the two lists, which a walk over leaves cites.
 pub fn same(a: Four, b: Four) -> bool
     ensures { SameFour a b result }
 {
-    if a.first != b.first {
-        return false;
-    }
-    if a.second != b.second {
-        return false;
-    }
-    if a.third != b.third {
-        return false;
-    }
-    a.fourth == b.fourth
+    a == b
 }
 
 // The first n + 1 entries turned left by one place, the one that comes to place n negated.
@@ -99,34 +71,27 @@ pub fn turned_on(e: Four, n: usize) -> Four
     ensures { four result ≡ turned (suc n) (four e) }
 {
     let moved = entries::negate(e.first);
-    let first = pick(n == 0, moved, e.second);
-    let second = pick(n == 1, moved, pick(1 < n, e.third, e.second));
-    let third = pick(n == 2, moved, pick(2 < n, e.fourth, e.third));
-    let fourth = pick(n == 3, moved, e.fourth);
     Four {
-        first,
-        second,
-        third,
-        fourth,
+        first: common::pick(n == 0, moved, e.second),
+        second: common::pick(n == 1, moved, common::pick(1 < n, e.third, e.second)),
+        third: common::pick(n == 2, moved, common::pick(2 < n, e.fourth, e.third)),
+        fourth: common::pick(n == 3, moved, e.fourth),
     }
 }
 
-// The step to a child: child 1 turns the first n + 1 entries.
+// The step to a child: child 1 turns the first n + 1 entries. The four are picked one by one: with one pick of both values a walk down
+// a path took 1.2 times as long by measurement.
 pub fn step(e: Four, n: usize, which: u8) -> Four
     requires { n < 4 }
     ensures { four result ≡ stepped which (suc n) (four e) }
 {
     let same = which == 0;
     let turned = turned_on(e, n);
-    let first = pick(same, e.first, turned.first);
-    let second = pick(same, e.second, turned.second);
-    let third = pick(same, e.third, turned.third);
-    let fourth = pick(same, e.fourth, turned.fourth);
     Four {
-        first,
-        second,
-        third,
-        fourth,
+        first: common::pick(same, e.first, turned.first),
+        second: common::pick(same, e.second, turned.second),
+        third: common::pick(same, e.third, turned.third),
+        fourth: common::pick(same, e.fourth, turned.fourth),
     }
 }
 
@@ -135,15 +100,11 @@ pub fn turned_back(e: Four, n: usize) -> Four
     requires { n < 4 }
     ensures { four result ≡ unturned n (four e) }
 {
-    let first = entries::negate(entry(e, n));
-    let second = pick(0 < n, e.first, e.second);
-    let third = pick(1 < n, e.second, e.third);
-    let fourth = pick(2 < n, e.third, e.fourth);
     Four {
-        first,
-        second,
-        third,
-        fourth,
+        first: entries::negate(entry(e, n)),
+        second: common::pick(0 < n, e.first, e.second),
+        third: common::pick(1 < n, e.second, e.third),
+        fourth: common::pick(2 < n, e.third, e.fourth),
     }
 }
 
@@ -151,7 +112,7 @@ pub fn turned_back(e: Four, n: usize) -> Four
 fn part_of(e: u8) -> u8
     ensures { result ≡ part_of e }
 {
-    pick(
+    common::pick(
         entries::is_minus(e),
         (1 << (entries::axis_of(e) % 8)) / 2,
         0,

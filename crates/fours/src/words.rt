@@ -11,21 +11,26 @@ use crate::Four;
 use entries::{check, words};
 
 // The word of four bytes.
-pub fn word(e: Four) -> u32
-    ensures { WordIs e result }
-{
-    words::word_of(e.first, e.second, e.third, e.fourth)
+impl From<Four> for u32 {
+    ghost from_gives = { WordIs };
+
+    fn from(e: Four) -> u32 {
+        words::word_of(e.first, e.second, e.third, e.fourth)
+    }
 }
 
 // The entries of a word.
-pub fn four_in(w: u32) -> Four
-    ensures { four result ≡ bytes_of w }
-{
-    Four {
-        first: words::byte(w, 0),
-        second: words::byte(w, 8),
-        third: words::byte(w, 16),
-        fourth: words::byte(w, 24),
+impl From<u32> for Four {
+    ghost from_gives = { λ w e. four e ≡ bytes_of w };
+
+    fn from(w: u32) -> Four {
+        let [first, second, third, fourth] = w.to_le_bytes();
+        Four {
+            first,
+            second,
+            third,
+            fourth,
+        }
     }
 }
 
@@ -43,7 +48,7 @@ pub fn entries_in(code: &[u8], d: usize) -> Four
     requires { (2 ≤ d) × (d ≤ 4) × (2 + d ≤ length code.now) }
     ensures { four result ≡ paste no_entries 0 (drop 2 code.now) d }
 {
-    four_in(word_in(code, d))
+    Four::from(word_in(code, d))
 }
 
 // The first n + 1 entries turned right by one place, the one that comes to the first place negated.
@@ -56,17 +61,7 @@ fn turned_back(w: u32, n: usize) -> u32
     let turned = w - above;
     let last = turned >> bit;
     let first = entries::negate((last % 256) as u8);
-    above + ((turned << 8) - ((last << bit) << 8)) + words::wide(first)
-}
-
-// One of two words.
-fn pick_word(b: bool, x: u32, y: u32) -> u32
-    ensures { result ≡ cond b x y }
-{
-    if b {
-        return x;
-    }
-    y
+    above + ((turned << 8) - ((last << bit) << 8)) + u32::from(first)
 }
 
 // The entries one step up, and the step.
@@ -85,7 +80,7 @@ pub fn unstep(w: u32, n: usize, own: u8) -> Back
     let same = check::same_sign(words::byte_at(w, n), own);
     let turned = turned_back(w, n);
     Back {
-        before: pick_word(same, w, turned),
-        step: crate::pick(same, 0, 1),
+        before: common::pick(same, w, turned),
+        step: common::pick(same, 0, 1),
     }
 }

@@ -1,14 +1,14 @@
 -- A difference of two sums as an i64 holds it, and its quotient by a power of two.
-use Rattle.std.specs.Prelude.{◌≡◌, refl, ℕ, zero, suc, ◌^◌, ◌<◌, T, ℤ, pos, negsuc, nat_abs, ◌-ℤ◌}
+use Rattle.std.specs.Prelude.{◌≡◌, refl, ℕ, zero, suc, ◌^◌, ◌<◌, ℤ, pos, negsuc, nat_abs, ◌-ℤ◌}
 use Rattle.std.proofs.Common.{ap, arith, lt-ltb, le-ltb, SFits, to_z, of_z}
 use Rattle.std.proofs.Math.Decide.{dec_lt}
 use Rattle.std.proofs.Math.IntN.{sub_ℕ}
 use Rattle.std.specs.Float.{binary64}
-use Rattle.std.specs.Float.Ieee.{div, of_int, in_float}
+use Rattle.std.specs.Float.Ieee.{div, of_int}
 use Rattle.std.specs.Int.{w64}
 use Rattle.std.proofs.lemmas.Int.{to_z-of_z, to_z_pos}
 use Rattle.greys.specs.Fractions.{Quotient, Power}
-use Rattle.greys.specs.Exact.{cast_whole, quotient_divided}
+use Rattle.greys.specs.Exact.{quotient_divided}
 
 minus_is : (a b : ℕ) → pos a -ℤ pos b ≡ sub_ℕ a b
 minus_is a zero = rw (le-ltb a 0 (omega arith)) (ap pos (omega arith))
@@ -34,12 +34,6 @@ module _ {a b : ℕ} (ha : a < 2 ^ 53) (hb : b < 2 ^ 53) where
   -- what the machine reads back from its bits
   held : to_z w64 (of_z w64 (to_z w64 a -ℤ to_z w64 b)) ≡ sub_ℕ a b
   held = rw difference_is (to_z-of_z w64 (sub_ℕ a b) (whole_fits (sub_ℕ a b) small))
-
-  pub difference_fits : SFits w64 (to_z w64 a -ℤ to_z w64 b)
-  difference_fits = rw difference_is (whole_fits (sub_ℕ a b) small)
-
-  pub difference_casts : T (in_float binary64 (to_z w64 (of_z w64 (to_z w64 a -ℤ to_z w64 b))))
-  difference_casts = rw held (cast_whole (sub_ℕ a b) small)
 
   pub difference_divided : {s : ℕ} → Power s
       → Quotient (div binary64 (of_int binary64 (to_z w64 (of_z w64 (to_z w64 a -ℤ to_z w64 b)))) (of_int binary64 (pos s))) (sub_ℕ a b) s

@@ -9,7 +9,7 @@ pub mod Values
 pub mod Exact
 -- A difference of two sums as an i64 holds it, and its quotient.
 pub mod Differences
--- Weighted sums: weights in a ratio, and the first weights of a list.
+-- Weighted sums: weights in a ratio, and weights of the cube's side.
 pub mod Sums
 -- What the loops of the functions keep.
 pub mod Loops

@@ -1,14 +1,12 @@
--- Weighted sums of samples: weights in a ratio, and the first weights of a list.
-use Rattle.std.specs.Prelude.{◌≡◌, refl, List, ℕ, zero, suc, ◌+◌, ◌*◌, ◌≤◌, ◌<◌, length, get_or, take, Float}
-use Rattle.std.proofs.Common.{ap, ◌∙◌, arith, add-zero, add-suc, pow_mono, length-take-le, get_or-take}
+-- Weighted sums of samples: weights in a ratio, and weights of the cube's side.
+use Rattle.std.specs.Prelude.{◌≡◌, refl, List, ℕ, zero, suc, ◌*◌, ◌≤◌, ◌<◌, length, get_or, take, Float}
+use Rattle.std.proofs.Common.{ap, ◌∙◌, arith, pow_mono}
 use Rattle.dimension.specs.Sizes.{halvings, cube_side}
 use Rattle.dimension.specs.Laws.{halvings_few}
 use Rattle.bisection.specs.Weights.{sum_to, total}
 use Rattle.greys.specs.Fractions.{Fraction}
 use Rattle.greys.specs.Samples.{sample_at, grey_sum, Weighable}
 use Rattle.greys.specs.Exact.{fraction_same}
-
--- ---- weights in a ratio
 
 -- a times the one weights are b times the others
 pub record InRatio (a b : ℕ) (ws us : List ℕ) : Type 0 where
@@ -25,37 +23,9 @@ pub grey_ratio : {a b : ℕ} {ws us : List ℕ} (width : ℕ) (samples : List �
 unfolding grey_sum
 grey_ratio {a} {b} {ws} {us} width samples r = sums_ratio a b (length ws) (λ j. get_or ws j 0) (λ j. get_or us j 0) (sample_at width samples) r.each ∙ rw r.count refl
 
--- weights multiplied by c
-pub grey_scaled : {c : ℕ} {ws us : List ℕ} (width : ℕ) (samples : List ℕ) → InRatio 1 c ws us → grey_sum width ws samples ≡ c * grey_sum width us samples
-grey_scaled width samples r = omega (arith, grey_ratio width samples r)
-
 -- the value by weights of sum W is the value by weights of sum U
 pub grey_same : {x : Float} {W U : ℕ} {ws us : List ℕ} (width : ℕ) (samples : List ℕ) → 0 < W → InRatio U W ws us → Fraction x (grey_sum width ws samples) W → Fraction x (grey_sum width us samples) U
 grey_same width samples p r f = fraction_same p (omega (arith, grey_ratio width samples r)) f
-
--- ---- the first weights of a list
-
-sum_same : (n : ℕ) (f g : ℕ → ℕ) → ((j : ℕ) → j < n → f j ≡ g j) → sum_to n f ≡ sum_to n g
-unfolding sum_to
-sum_same zero f g e = refl
-sum_same (suc n) f g e = omega (arith, sum_same n f g (λ j l. e j (omega arith)), e n (omega arith))
-
-pub sum_rises : (f : ℕ → ℕ) (m k : ℕ) → sum_to m f ≤ sum_to (m + k) f
-unfolding sum_to
-sum_rises f m zero = rw (add-zero m) (omega arith)
-sum_rises f m (suc k) = rw (add-suc m k) (omega (arith, sum_rises f m k))
-
-module _ (ws : List ℕ) (n : ℕ) (few : n ≤ length ws) where
-  front : (h : ℕ → ℕ → ℕ) → sum_to (length (take n ws)) (λ j. h j (get_or (take n ws) j 0)) ≡ sum_to n (λ j. h j (get_or ws j 0))
-  front h = rw (length-take-le n ws few) (sum_same n _ _ (λ j l. ap (h j) (get_or-take n ws j 0 l)))
-
-  pub total_front : total (take n ws) ≡ sum_to n (λ j. get_or ws j 0)
-  unfolding total
-  total_front = front (λ j w. w)
-
-  pub grey_front : (width : ℕ) (samples : List ℕ) → grey_sum width (take n ws) samples ≡ sum_to n (λ j. get_or ws j 0 * sample_at width samples j)
-  unfolding grey_sum
-  grey_front width samples = front (λ j w. w * sample_at width samples j)
 
 -- weights whose sum is the cube's side are light enough
 pub cube_weighable : {width d : ℕ} {ws samples : List ℕ} → width * suc d ≤ length samples → width ≤ 3 → total (take (suc d) ws) ≡ cube_side → Weighable width d ws samples

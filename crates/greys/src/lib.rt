@@ -9,17 +9,10 @@ ghost use Rattle.greys.specs.Fractions.{Fraction, Quotient, Power};
 ghost use Rattle.greys.specs.Samples.{sample_at, grey_sum, Weighable};
 ghost use Rattle.greys.specs.Values.{flat_of};
 
-use bisection::DONE;
+use bisection::{DONE, Refused};
 use dimension::Dim;
 
-// The answer of a value query: the grey value, or a refusal and its offset.
-#[derive(Clone, Copy)]
-pub enum Value {
-    Grey(f64),
-    Refused { number: u8, offset: usize },
-}
-
-// The same for a C program.
+// The answer of a value query, for a C program: the grey value, or a refusal and its offset.
 #[repr(C)]
 #[derive(Clone, Copy)]
 pub struct ValueAnswer {
@@ -28,21 +21,23 @@ pub struct ValueAnswer {
     pub value: f64,
 }
 
-// The number, the offset and the value of each case.
-pub fn flat(v: Value) -> ValueAnswer
-    ensures { result ≡ flat_of v }
-{
-    match v {
-        Value::Grey(x) => ValueAnswer {
-            refusal: DONE,
-            offset: 0,
-            value: x,
-        },
-        Value::Refused { number, offset } => ValueAnswer {
-            refusal: number,
-            offset,
-            value: 0.0,
-        },
+// A refusal's value is +0.0.
+impl From<Result<f64, Refused>> for ValueAnswer {
+    ghost from_gives = { λ value answer. answer ≡ flat_of value };
+
+    fn from(value: Result<f64, Refused>) -> ValueAnswer {
+        match value {
+            Ok(value) => ValueAnswer {
+                refusal: DONE,
+                offset: 0,
+                value,
+            },
+            Err(refused) => ValueAnswer {
+                refusal: refused.refusal.into(),
+                offset: refused.offset,
+                value: 0.0,
+            },
+        }
     }
 }
 
@@ -66,23 +61,15 @@ pub fn quotient(up: u64, down: u64, side: u64) -> f64
     n as f64 / s
 }
 
-fn wide(x: u8) -> u64
-    ensures { (result ≡ x) × (result < 256) }
-{
-    x as u64
-}
-
 // Sample i of a width in bytes, read from its high byte down.
 pub fn sample(samples: &[u8], width: usize, i: usize) -> u64
     requires { (width ≤ 3) × (width * suc i ≤ length samples.now) }
     ensures { (result ≡ sample_at width samples.now i) × (result < 2 ^ 24) }
 {
-    let end = width * i + width;
-    let mut n: u64 = 0;
-    let mut j: usize = 0;
-    while j < width {
-        n = 256 * n + wide(samples[end - (j + 1)]);
-        j += 1;
+    let first = width * i;
+    let mut n = 0;
+    for byte in samples[first..first + width].iter().rev() {
+        n = 256 * n + u64::from(*byte);
     }
     n
 }
@@ -92,13 +79,10 @@ pub fn grey_sum(samples: &[u8], width: u8, weights: [u64; 5], dim: Dim) -> u64
     requires { Weighable width (axes_of dim) weights samples.now }
     ensures { (result ≡ grey_sum width (take (suc (axes_of dim)) weights) samples.now) × (result < 2 ^ 53) }
 {
-    let axes = dim.axes();
-    let bytes = common::size(width);
-    let mut sum: u64 = 0;
-    let mut j: usize = 0;
-    while j <= axes {
-        sum += weights[j] * sample(samples, bytes, j);
-        j += 1;
+    let bytes = usize::from(width);
+    let mut sum = 0;
+    for (j, weight) in weights[..=dim.axes()].iter().enumerate() {
+        sum += *weight * sample(samples, bytes, j);
     }
     sum
 }
@@ -110,6 +94,6 @@ pub fn grey(samples: &[u8], width: u8, weights: [u64; 5], dim: Dim) -> f64
 {
     fraction(
         grey_sum(samples, width, weights, dim),
-        Dim::CUBE_SIDE as u64,
+        u64::from(Dim::CUBE_SIDE),
     )
 }

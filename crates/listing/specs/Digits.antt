@@ -1,7 +1,7 @@
 -- Numbers in decimal and bytes in hex: how long they are, and the digits that `io::decimal` makes.
 use Rattle.std.specs.Prelude.{◌≡◌, refl, List, [], ◌∷◌, ◌++◌, ℕ, zero, suc, ◌+◌, ◌-◌, ◌*◌, ◌/◌, ◌%◌, ◌^◌, ◌≤◌, ◌<◌, length, get_or, drop, set}
 use Rattle.std.proofs.Math.Path.{ap}
-use Rattle.std.proofs.Common.{◌∙◌, subst, arith, pow-suc, length-append, drop_of_length-le, drop-cons, lt-ltb, le-ltb}
+use Rattle.std.proofs.Common.{◌∙◌, subst, arith, add-one, pow-suc, length-append, drop_of_length-le, drop-cons, lt-ltb, le-ltb}
 use Rattle.std.proofs.Math.Nat.{pow-zero}
 use Rattle.std.proofs.Math.Decide.{dec_lt}
 use Rattle.io.specs.Digits.{hex_digit_ascii, last_digits, IsDigitCount}
@@ -65,33 +65,19 @@ hex_length [] = refl
 hex_length (b ∷ bs) = omega (arith, hex_length bs)
 
 -- the hex of bytes under way: those from i on are left
-pub record Hexing (at : ℕ) (bytes out₀ : List ℕ) (to i : ℕ) (out : List ℕ) : Type 0 where
-  pub inside : i ≤ length bytes
-  pub putting : Putting at (hex bytes) out₀ to (hex (drop i bytes)) out
+pub hexing_start : (at : ℕ) (bytes out : List ℕ) → at + 2 * length bytes ≤ length out → Putting at (hex bytes) out (at + 2 * 0) (hex bytes) out
+hexing_start at bytes out h = subst (λ (n : ℕ). Putting at (hex bytes) out n (hex bytes) out) (omega arith) (putting_start at (hex bytes) out (omega (arith, hex_length bytes)))
 
-pub hexing_start : (at : ℕ) (bytes out : List ℕ) → at + 2 * length bytes ≤ length out → Hexing at bytes out at 0 out
-hexing_start at bytes out h = record { inside = omega arith; putting = putting_start at (hex bytes) out (omega (arith, hex_length bytes)) }
-
-module _ {at : ℕ} {bytes out₀ : List ℕ} {to i : ℕ} {out : List ℕ} (on : Hexing at bytes out₀ to i out) where
-  module _ (h : i < length bytes) where
-    b : ℕ
-    b = get_or bytes i 0
-
-    left_is : hex (drop i bytes) ≡ (digit (get_or bytes i 0 / 16) ∷ digit (get_or bytes i 0 % 16) ∷ []) ++ hex (drop (suc i) bytes)
-    unfolding hex
-    left_is = ap hex (drop-cons bytes i 0 h)
-
-    pub hexing_room : to + 2 ≤ length out
-    hexing_room = omega (arith, on.putting.fits, ap length left_is)
-
-    pub hexing_next : (x y : ℕ) → x ≡ digit (get_or bytes i 0 / 16) → y ≡ digit (get_or bytes i 0 % 16) → Hexing at bytes out₀ (to + 2) (i + 1) (set (set out to x) (to + 1) y)
-    hexing_next x y e f = record { inside = omega arith; putting = rw next (putting_next on.putting (x ∷ y ∷ []) (hex (drop (suc i) bytes)) (left_is ∙ rw (e, f) refl) (put_two to x y out hexing_room)) }
-      where
-        next : i + 1 ≡ suc i
-        next = omega arith
-
-  pub hexing_end : length bytes ≤ i → Puts at (hex bytes) out₀ to out
-  hexing_end h = putting_end on.putting none
+module _ (at : ℕ) (bytes : List ℕ) (i : ℕ) {out₀ out : List ℕ} (on : Putting at (hex bytes) out₀ (at + 2 * i) (hex (drop i bytes)) out) where
+  pub hexing_next : {x y : ℕ} → i < length bytes → x ≡ digit (get_or bytes i 0 / 16) → y ≡ digit (get_or bytes i 0 % 16)
+      → Putting at (hex bytes) out₀ (at + 2 * (i + 1)) (hex (drop (i + 1) bytes)) (set (set out (at + 2 * i) x) (at + 2 * i + 1) y)
+  unfolding hex
+  hexing_next {x} {y} h e f = subst (λ (n : ℕ). Putting at (hex bytes) out₀ n (hex (drop (i + 1) bytes)) (set (set out (at + 2 * i) x) (at + 2 * i + 1) y)) (omega arith)
+      (putting_next on (x ∷ y ∷ []) (hex (drop (i + 1) bytes)) left_is (put_two (at + 2 * i) x y out (omega (arith, on.fits, ap length left_is))))
     where
-      none : hex (drop i bytes) ≡ []
-      none = ap hex (drop_of_length-le bytes h) ∙ (unfold hex in refl)
+      left_is : hex (drop i bytes) ≡ (x ∷ y ∷ []) ++ hex (drop (i + 1) bytes)
+      left_is = ap hex (drop-cons bytes i 0 h) ∙ rw (e, f, add-one i) refl
+
+  pub hexing_end : i ≤ length bytes → length bytes ≤ i → Puts at (hex bytes) out₀ (at + 2 * length bytes) out
+  unfolding hex
+  hexing_end h l = subst (λ (n : ℕ). Puts at (hex bytes) out₀ (at + 2 * n) out) (omega arith) (putting_end on (ap hex (drop_of_length-le bytes l)))

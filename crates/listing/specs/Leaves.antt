@@ -1,7 +1,7 @@
 -- The lines of a good sheet's leaves, put one after the other as the records are read.
 use Rattle.std.specs.Prelude.{◌≡◌, List, [], ◌∷◌, ◌++◌, take, drop}
-use Rattle.std.proofs.Math.Path.{refl, sym, ap}
-use Rattle.std.proofs.Common.{◌∙◌, subst, mul-le-mul, length-drop, drop-drop}
+use Rattle.std.proofs.Math.Path.{refl, ap}
+use Rattle.std.proofs.Common.{◌∙◌, subst, mul-le-mul, length-drop}
 use Prim.Native.Nat.{ℕ, suc, ◌+◌, ◌-◌, ◌*◌, ◌^◌, ◌≤◌, ◌<◌}
 use native.Mathlib.Omega.{arith}
 use Rattle.std.proofs.Math.ListN.{length, length-append}
@@ -17,9 +17,10 @@ use Rattle.sheets.specs.Steps.{PartsAre}
 use Rattle.sheets.specs.StepLaws.{part_all}
 use Rattle.sheets.specs.Theorems.Listing.{GoodCell, Listed, listed_none, listed_more, record_of, record_passes, record_code, record_rest, record_read, IsRecord}
 use Rattle.sheets.specs.Theorems.FirstRecord.{good_listed}
-use Rattle.listing.specs.Texts.{sheet_limit, decimal, hex, space, newline, leaf_line, leaf_lines, good_text}
+use Rattle.listing.specs.Texts.{sheet_limit, leaf_line, leaf_lines, good_text}
 use Rattle.common.specs.Putting.{Puts, Putting, putting_start, putting_next, putting_end}
-use Rattle.listing.specs.Digits.{decimal_short, hex_length}
+use Rattle.listing.specs.Digits.{decimal_short}
+use Rattle.listing.specs.Lines.{leaf_length}
 
 -- a sheet that is listed, its samples wide enough that a line is no longer than two records, and room behind n cells
 pub record RoomFor (width : ℕ) (sheet : List ℕ) (n : ℕ) (out : List ℕ) : Type 0 where
@@ -37,10 +38,6 @@ pub record PutsGood (mark : List ℕ) (width : ℕ) (sheet : List ℕ) (records 
   pub puts : Puts 0 (good_text sheet_is.dimension sheet_is.cells) out r out'
   pub short : length (good_text sheet_is.dimension sheet_is.cells) ≤ 32 + 2 * length sheet
 
-pub line_length : (n : ℕ) (code : List ℕ) → length (leaf_line n code) ≡ length (decimal n) + (2 * length code + 2)
-unfolding leaf_line
-line_length n code = length-append ((decimal n ++ space) ++ hex code) newline ∙ omega (arith, length-append (decimal n ++ space) (hex code), length-append (decimal n) space, hex_length code)
-
 record_length_is : (mark : List ℕ) (c : TreeCell) (samples rest : List ℕ) → length (record_of mark c samples rest) ≡ length mark + (length (code_of c.root c.path) + (length samples + length rest))
 record_length_is mark c samples rest = length-append mark (code_of c.root c.path ++ (samples ++ rest)) ∙ omega (arith, length-append (code_of c.root c.path) (samples ++ rest), length-append samples rest)
 
@@ -53,7 +50,7 @@ module _ (mark : List ℕ) (width : ℕ) (two : length mark ≡ 2) (wide : 2 ≤
   unfolding leaf_lines
   lines_short n listed_none h = omega arith
   lines_short n (listed_more {c = c} {cs = cs} {rest = rest} g samples z e l) h =
-      let line = line_length n (code_of c.root c.path) in
+      let line = leaf_length n (code_of c.root c.path) in
       let both = length-append (leaf_line n (code_of c.root c.path)) (leaf_lines (suc n) cs) in
       omega (arith, ap length e, record_length_is mark c samples rest, samples_some g samples z, decimal_short n 13 (omega arith), lines_short (suc n) l (omega arith))
 
@@ -68,16 +65,16 @@ module _ (mark : List ℕ) (width : ℕ) {sheet : List ℕ} {records : ℕ} (two
   pub good_short : length (leaf_lines 0 g.cells) ≤ 2 * length sheet
   good_short = lines_short mark width two wide 0 (good_listed g) (omega (arith, few_records mark width two wide (good_listed g)))
 
--- the listing under way: the leaves that are left, and their records
-pub record ListingOn (mark : List ℕ) (width : ℕ) (sheet : List ℕ) (records from : ℕ) (out₀ : List ℕ) (at offset number : ℕ) (out : List ℕ) : Type 0 where
+-- the listing under way: the leaves that are left, and the rest of the sheet with their records
+pub record ListingOn (mark : List ℕ) (width : ℕ) (sheet : List ℕ) (records from : ℕ) (out₀ : List ℕ) (at number : ℕ) (rest out : List ℕ) : Type 0 where
   pub good : GoodSheet mark width sheet records
   pub left : List TreeCell
-  pub listed : Listed mark width left (drop offset sheet)
-  pub inside : offset ≤ length sheet
+  pub listed : Listed mark width left rest
+  pub inside : length rest ≤ length sheet
   pub count : number + length left ≡ records
   pub putting : Putting from (leaf_lines 0 good.cells) out₀ at (leaf_lines number left) out
 
-pub on_start : (mark : List ℕ) (width : ℕ) (two : length mark ≡ 2) (sheet : List ℕ) (records from : ℕ) (out : List ℕ) → GoodSheet mark width sheet records → RoomFor width sheet from out → ListingOn mark width sheet records from out from 0 0 out
+pub on_start : (mark : List ℕ) (width : ℕ) (two : length mark ≡ 2) (sheet : List ℕ) (records from : ℕ) (out : List ℕ) → GoodSheet mark width sheet records → RoomFor width sheet from out → ListingOn mark width sheet records from out from 0 sheet out
 on_start mark width two sheet records from out g r = record {
   good = g;
   left = g.cells;
@@ -87,28 +84,28 @@ on_start mark width two sheet records from out g r = record {
   putting = putting_start from (leaf_lines 0 g.cells) out (omega (arith, r.room, good_short mark width two r.wide g r.small));
 }
 
--- the bytes from an offset on, and the code of a record behind its m mark bytes, as slices of the sheet
-abbrev pub onward : List ℕ → ℕ → List ℕ
-onward sheet offset = take (length sheet - offset) (drop offset sheet)
+-- the code of a record behind its m mark bytes, and what follows the record, as slices of the rest
+abbrev pub code_in : ℕ → List ℕ → RecordParts → List ℕ
+code_in m rest p = take (m + p.code - m) (drop m rest)
 
-abbrev pub code_at : ℕ → List ℕ → ℕ → RecordParts → List ℕ
-code_at m sheet offset p = take (offset + m + p.code - (offset + m)) (drop (offset + m) sheet)
+abbrev pub behind : List ℕ → RecordParts → List ℕ
+behind rest p = take (length rest - p.whole) (drop p.whole rest)
 
 -- what the next line needs and gives
-pub record Line (mark : List ℕ) (width : ℕ) (sheet : List ℕ) (records from : ℕ) (out₀ : List ℕ) (at offset number : ℕ) (out : List ℕ) : Type 0 where
-  pub passes : record_refusal mark width (onward sheet offset) ≡ done
-  pub code_fits : (p : RecordParts) → PartsAre mark width (onward sheet offset) p → offset + length mark + p.code ≤ length sheet
-  pub whole_fits : (p : RecordParts) → PartsAre mark width (onward sheet offset) p → offset + p.whole ≤ length sheet
-  pub fits : (p : RecordParts) → PartsAre mark width (onward sheet offset) p → at + length (leaf_line number (code_at (length mark) sheet offset p)) ≤ length out
-  pub next : (p : RecordParts) → PartsAre mark width (onward sheet offset) p → {r : ℕ} {out' : List ℕ} → Puts at (leaf_line number (code_at (length mark) sheet offset p)) out r out' → ListingOn mark width sheet records from out₀ r (offset + p.whole) (number + 1) out'
+pub record Line (mark : List ℕ) (width : ℕ) (sheet : List ℕ) (records from : ℕ) (out₀ : List ℕ) (at number : ℕ) (rest out : List ℕ) : Type 0 where
+  pub passes : record_refusal mark width rest ≡ done
+  pub code_fits : (p : RecordParts) → PartsAre mark width rest p → length mark + p.code ≤ length rest
+  pub whole_fits : (p : RecordParts) → PartsAre mark width rest p → p.whole ≤ length rest
+  pub fits : (p : RecordParts) → PartsAre mark width rest p → at + length (leaf_line number (code_in (length mark) rest p)) ≤ length out
+  pub next : (p : RecordParts) → PartsAre mark width rest p → {r : ℕ} {out' : List ℕ} → Puts at (leaf_line number (code_in (length mark) rest p)) out r out' → ListingOn mark width sheet records from out₀ r (number + 1) (behind rest p) out'
 
-module _ {mark : List ℕ} {width : ℕ} {sheet : List ℕ} {records from : ℕ} {out₀ : List ℕ} {at offset number : ℕ} {out : List ℕ} (on : ListingOn mark width sheet records from out₀ at offset number out) where
-  module _ (c : TreeCell) (cs : List TreeCell) (left_is : on.left ≡ c ∷ cs) (g : GoodCell c) (samples rest : List ℕ) (z : length samples ≡ width * suc (length c.root)) (e : drop offset sheet ≡ record_of mark c samples rest) (listed : Listed mark width cs rest) where
+module _ {mark : List ℕ} {width : ℕ} {sheet : List ℕ} {records from : ℕ} {out₀ : List ℕ} {at number : ℕ} {rest out : List ℕ} (on : ListingOn mark width sheet records from out₀ at number rest out) where
+  module _ (c : TreeCell) (cs : List TreeCell) (left_is : on.left ≡ c ∷ cs) (g : GoodCell c) (samples after : List ℕ) (z : length samples ≡ width * suc (length c.root)) (e : rest ≡ record_of mark c samples after) (listed : Listed mark width cs after) where
     abbrev code : List ℕ
     code = code_of c.root c.path
 
-    passes : record_refusal mark width (drop offset sheet) ≡ done
-    passes = rw e (record_passes mark width c g samples rest z)
+    passes : record_refusal mark width rest ≡ done
+    passes = rw e (record_passes mark width c g samples after z)
 
     lines_are : leaf_lines number on.left ≡ leaf_line number code ++ leaf_lines (number + 1) cs
     unfolding leaf_lines
@@ -120,56 +117,54 @@ module _ {mark : List ℕ} {width : ℕ} {sheet : List ℕ} {records from : ℕ}
     room : at + length (leaf_line number code) ≤ length out
     room = omega (arith, on.putting.fits, ap length lines_are, length-append (leaf_line number code) (leaf_lines (number + 1) cs))
 
-    read : IsRecord mark width (drop offset sheet)
-    read = record_read mark width (drop offset sheet) passes
+    read : IsRecord mark width rest
+    read = record_read mark width rest passes
 
-    module _ (p : RecordParts) (are : PartsAre mark width (drop offset sheet) p) where
-      fits_whole : offset + p.whole ≤ length sheet
-      fits_whole = omega (arith, are.whole_is, read.inside, length-drop offset sheet, on.inside)
+    module _ (p : RecordParts) (are : PartsAre mark width rest p) where
+      fits_whole : p.whole ≤ length rest
+      fits_whole = omega (arith, are.whole_is, read.inside)
 
-      fits_code : offset + (length mark + p.code) ≤ length sheet
+      fits_code : length mark + p.code ≤ length rest
       fits_code = omega (arith, fits_whole, are.whole_is, are.code_is, long)
         where
-          long : length mark + front_length (behind_mark mark (drop offset sheet)) ≤ record_length mark width (drop offset sheet)
+          long : length mark + front_length (behind_mark mark rest) ≤ record_length mark width rest
           long = unfold record_length body_length in omega arith
 
-      code_here : take p.code (drop (offset + length mark) sheet) ≡ code
-      code_here = ap (λ (n : ℕ). take n (drop (offset + length mark) sheet)) are.code_is ∙ ap (take (front_length (behind_mark mark (drop offset sheet)))) behind
-          ∙ front_is_front (behind_mark mark (drop offset sheet)) ∙ ap (λ (s : List ℕ). front_code (behind_mark mark s)) e ∙ record_code mark width c g samples rest z
+      code_here : code_in (length mark) rest p ≡ code
+      unfolding behind_mark
+      code_here = ap (λ (n : ℕ). take n (drop (length mark) rest)) size ∙ front_is_front (behind_mark mark rest) ∙ ap (λ (s : List ℕ). front_code (behind_mark mark s)) e ∙ record_code mark width c g samples after z
         where
-          behind : drop (offset + length mark) sheet ≡ behind_mark mark (drop offset sheet)
-          behind = unfold behind_mark in sym (drop-drop (length mark) offset sheet)
+          size : length mark + p.code - length mark ≡ front_length (behind_mark mark rest)
+          size = omega (arith, are.code_is)
 
-      rest_here : drop (offset + p.whole) sheet ≡ rest
-      rest_here = sym (drop-drop p.whole offset sheet) ∙ ap (λ (n : ℕ). drop n (drop offset sheet)) are.whole_is ∙ ap (λ (s : List ℕ). drop (record_length mark width s) s) e ∙ record_rest mark width c g samples rest z
+      rest_here : behind rest p ≡ after
+      rest_here = part_all rest p.whole ∙ ap (λ (n : ℕ). drop n rest) are.whole_is ∙ ap (λ (s : List ℕ). drop (record_length mark width s) s) e ∙ record_rest mark width c g samples after z
 
-      after : {r : ℕ} {out' : List ℕ} → Puts at (leaf_line number code) out r out' → ListingOn mark width sheet records from out₀ r (offset + p.whole) (number + 1) out'
-      after q = record { good = on.good; left = cs; listed = subst (Listed mark width cs) (sym rest_here) listed; inside = fits_whole; count = omega (arith, on.count, ap length left_is); putting = putting_next on.putting (leaf_line number code) (leaf_lines (number + 1) cs) lines_are q }
+      next : {r : ℕ} {out' : List ℕ} → Puts at (leaf_line number code) out r out' → ListingOn mark width sheet records from out₀ r (number + 1) (behind rest p) out'
+      next q = record {
+        good = on.good;
+        left = cs;
+        listed = rw rest_here listed;
+        inside = omega (arith, on.inside, ap length (part_all rest p.whole), length-drop p.whole rest);
+        count = omega (arith, on.count, ap length left_is);
+        putting = putting_next on.putting (leaf_line number code) (leaf_lines (number + 1) cs) lines_are q;
+      }
 
-    line_of : Line mark width sheet records from out₀ at offset number out
+    line_of : Line mark width sheet records from out₀ at number rest out
     line_of = record {
-      passes = rw (part_all sheet offset) passes;
-      code_fits = λ p are. omega (arith, fits_code p (there p are));
-      whole_fits = λ p are. fits_whole p (there p are);
-      fits = λ p are. rw (here p are) room;
-      next = λ p are {r} {out'} q. after p (there p are) (subst (λ (t : List ℕ). Puts at (leaf_line number t) out r out') (here p are) q);
+      passes = passes;
+      code_fits = fits_code;
+      whole_fits = fits_whole;
+      fits = λ p are. rw (code_here p are) room;
+      next = λ p are {r} {out'} q. next p are (subst (λ (t : List ℕ). Puts at (leaf_line number t) out r out') (code_here p are) q);
     }
-      where
-        there : (p : RecordParts) → PartsAre mark width (onward sheet offset) p → PartsAre mark width (drop offset sheet) p
-        there p are = subst (λ (s : List ℕ). PartsAre mark width s p) (part_all sheet offset) are
 
-        here : (p : RecordParts) → PartsAre mark width (onward sheet offset) p → code_at (length mark) sheet offset p ≡ code
-        here p are = ap (λ (n : ℕ). take n (drop (offset + length mark) sheet)) same ∙ code_here p (there p are)
-          where
-            same : offset + length mark + p.code - (offset + length mark) ≡ p.code
-            same = omega arith
-
-  pub on_line : number < records → Line mark width sheet records from out₀ at offset number out
-  on_line h = go on.left refl (drop offset sheet) refl on.listed
+  pub on_line : number < records → Line mark width sheet records from out₀ at number rest out
+  on_line h = go on.left refl rest refl on.listed
     where
-      go : (cs : List TreeCell) → on.left ≡ cs → (s : List ℕ) → drop offset sheet ≡ s → Listed mark width cs s → Line mark width sheet records from out₀ at offset number out
+      go : (cs : List TreeCell) → on.left ≡ cs → (s : List ℕ) → rest ≡ s → Listed mark width cs s → Line mark width sheet records from out₀ at number rest out
       go cs q s t listed_none = absurd (omega (arith, on.count, ap length q))
-      go cs q s t (listed_more {c = c} {cs = ds} {rest = rest} g samples z e l) = line_of c ds q g samples rest z (t ∙ e) l
+      go cs q s t (listed_more {c = c} {cs = ds} {rest = after} g samples z e l) = line_of c ds q g samples after z (t ∙ e) l
 
   pub on_end : length mark ≡ 2 → 2 ≤ width → records ≤ number → length sheet ≤ sheet_limit → PutsLeaves mark width sheet records from out₀ at out
   on_end two wide h small = record { sheet_is = on.good; puts = putting_end on.putting (go on.left refl); short = good_short mark width two wide on.good small }

@@ -1,14 +1,10 @@
 -- Document 01, "The listing program": what it writes of a sheet, byte by byte. The bytes are those of ASCII.
 use Rattle.std.specs.Prelude.{◌≡◌, cond, List, [], ◌∷◌, ◌++◌, ◌≢◌, ℕ, zero, suc, ◌+◌, ◌/◌, ◌%◌, ◌≤◌, ◌<◌, ltb, length, drop}
 use Rattle.bisection.specs.Codes.{code_of}
-use Rattle.bisection.specs.Refusals.{done}
+use Rattle.bisection.specs.Refusals.{done, refused_large}
 use Rattle.sheets.specs.declared.SheetAnswer.{SheetAnswer}
 use Rattle.sheets.specs.Forests.{TreeCell}
 use Rattle.sheets.specs.Sheets.{sheet_mark, sample_width, GoodSheet, SheetIs}
-
--- the listing program: its input is larger than 65,536 bytes
-abbrev pub refused_large : ℕ
-refused_large = 15
 
 abbrev pub sheet_limit : ℕ
 sheet_limit = 65536

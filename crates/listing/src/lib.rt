@@ -4,14 +4,15 @@
 mod text; // text.rt: bytes, numbers and hex put into a lent buffer
 
 ghost use Rattle.std.specs.Prelude.{◌≡◌, ◌+◌, ◌*◌, ◌≤◌, ◌<◌, length, take};
+ghost use Rattle.bisection.specs.Numbers.{number_of};
 ghost use Rattle.sheets.specs.Sheets.{GoodSheet};
 ghost use Rattle.sheets.specs.Steps.{mark_of};
 ghost use Rattle.listing.specs.Texts.{sheet_limit, refused_text, Lists};
 ghost use Rattle.common.specs.Putting.{Puts};
 ghost use Rattle.listing.specs.Leaves.{PutsLeaves, PutsGood, RoomFor};
 
-use bisection::DONE;
-use sheets::Edition;
+use bisection::{Refusal, Refused};
+use sheets::{Edition, MARK_LENGTH};
 
 // The most bytes of a sheet that is listed.
 pub const SHEET_LIMIT: usize = 65536;
@@ -20,17 +21,16 @@ pub const SHEET_LIMIT: usize = 65536;
 // the other lines.
 pub const TEXT_ROOM: usize = 2 * SHEET_LIMIT + 32;
 
-const REFUSED_LARGE: u8 = 15;
-
 // The line of a refused sheet.
-fn put_refused(out: &mut [u8], refusal: u8, offset: usize) -> usize
-    requires { (offset ≤ sheet_limit) × (32 ≤ length out.old) }
-    ensures { Puts 0 (refused_text refusal offset) out.old result out.new × (result ≤ 32) }
+#[tactic(auto, using(crate::specs::Lines::byte_short, crate::specs::Lines::offset_short))]
+fn put_refused(out: &mut [u8], refused: Refused) -> usize
+    requires { (refused.offset ≤ sheet_limit) × (32 ≤ length out.old) }
+    ensures { Puts 0 (refused_text (number_of refused.refusal) refused.offset) out.old result out.new × (result ≤ 32) }
 {
     let at = text::put(out, 0, b"refused ");
-    let at = text::put_decimal(out, at, refusal as usize);
+    let at = text::put_decimal(out, at, usize::from(u8::from(refused.refusal)));
     let at = text::put(out, at, b" at ");
-    let at = text::put_decimal(out, at, offset);
+    let at = text::put_decimal(out, at, refused.offset);
     text::put(out, at, b"\n")
 }
 
@@ -40,15 +40,16 @@ fn put_leaves(edition: Edition, out: &mut [u8], from: usize, sheet: &[u8], recor
     ensures { PutsLeaves (mark_of edition) edition.width sheet.now records from out.old result out.new }
 {
     let mut at = from;
-    let mut offset: usize = 0;
-    let mut number: usize = 0;
-    while number < records {
-        let parts = sheets::record_parts(edition, &sheet[offset..]);
-        let code = offset + sheets::MARK_LENGTH;
-        let end = code + parts.code;
-        at = text::put_leaf(out, at, number, &sheet[code..end]);
-        offset += parts.whole;
-        number += 1;
+    let mut rest = sheet;
+    for number in 0..records {
+        let parts = sheets::record_parts(edition, rest);
+        at = text::put_leaf(
+            out,
+            at,
+            number,
+            &rest[MARK_LENGTH..MARK_LENGTH + parts.code],
+        );
+        rest = &rest[parts.whole..];
     }
     at
 }
@@ -59,7 +60,7 @@ fn put_good(edition: Edition, out: &mut [u8], sheet: &[u8], records: usize) -> u
     ensures { PutsGood (mark_of edition) edition.width sheet.now records out.old result out.new }
 {
     let first = sheets::record_parts(edition, sheet);
-    let at = text::put_line(out, 0, b"dim ", common::size(first.dimension));
+    let at = text::put_line(out, 0, b"dim ", first.dim.axes());
     let at = put_leaves(edition, out, at, sheet, records);
     text::put_line(out, at, b"leaves ", records)
 }
@@ -70,11 +71,10 @@ pub fn list_sheet(sheet: &[u8], out: &mut [u8; TEXT_ROOM]) -> usize
     ensures upper_bound { (result ≤ length out.new) × (result ≡ length (take result out.new)) }
 {
     if SHEET_LIMIT < sheet.len() {
-        return put_refused(out, REFUSED_LARGE, 0);
+        return put_refused(out, Refusal::Large.into());
     }
-    let answer = sheets::sheet_check(sheet);
-    if answer.refusal != DONE {
-        return put_refused(out, answer.refusal, answer.offset);
+    match sheets::sheet_check(sheet) {
+        Ok(records) => put_good(sheets::first_edition(), out, sheet, records),
+        Err(refused) => put_refused(out, refused),
     }
-    put_good(sheets::first_edition(), out, sheet, answer.records)
 }

@@ -1,5 +1,5 @@
 -- Four orthants as a word: which of them stop the carry, how many it passes from the last one back, and their flips.
-use Rattle.std.specs.Prelude.{◌≡◌, Bool, not, cond, List, ℕ, zero, suc, ◌+◌, ◌-◌, ◌*◌, ◌/◌, ◌%◌, ◌^◌, max, ◌≤◌, ◌<◌, eqb, ltb, length, get_or}
+use Rattle.std.specs.Prelude.{◌≡◌, Bool, not, cond, List, ℕ, zero, suc, ◌+◌, ◌-◌, ◌*◌, ◌/◌, ◌%◌, ◌^◌, ◌≤◌, ◌<◌, eqb, ltb, length, get_or}
 use Rattle.std.proofs.Math.Path.{refl}
 use Rattle.std.proofs.Common.{sym, ap, ◌∙◌, arith, mod-lt, mul_comm, pow_pos, eqb-true, lt-ltb, le-ltb}
 use Rattle.std.proofs.Math.Bool.{true, false}
@@ -17,7 +17,7 @@ use Rattle.bisection.specs.Theorems.Crossing.Flips.{Parts, digit}
 use Rattle.bisection.proofs.Theorems.Crossing.Flips.{parts}
 use Rattle.entries.specs.Masks.{shifted_bit}
 use Rattle.entries.specs.Words.{bytes_of, byte_at, and_byte, xor_byte, WordAt, word_byte, Puts, bytes_sum}
-use Rattle.moves.specs.Carrying.{passes, Running, Ends, Flips}
+use Rattle.moves.specs.Carrying.{passes, Flips}
 
 -- the lowest bit of each byte
 abbrev ones : ℕ
@@ -79,9 +79,6 @@ stop_minus : (b : ℕ) → b < 2 → 1 - b ≡ cond (same_sign true (eqb b 1)) 0
 stop_minus zero h = refl
 stop_minus (suc zero) h = refl
 stop_minus (suc (suc b)) h = absurd (omega arith)
-
-pub ones_over : (x : ℕ) → bit_and x ones ≤ ones
-ones_over x = and_le_r x ones
 
 -- as the code finds them, of an entry with a plus and of one with a minus
 module _ (w : ℕ) {a x : ℕ} (low : 1 ≤ a) (few : a ≤ 8) (is : x ≡ a) where
@@ -168,31 +165,6 @@ module _ {up : Bool} {a w r : ℕ} (s : Stopping up a w r) where
           (record { few = omega arith; passed = back (more (more (more none h) g) f); stopped = λ l. e })
       go true true true true h g f e = rw (lead 32 0 refl (omega (arith, digits e f g h)) (omega (arith, digits e f g h)))
           (record { few = omega arith; passed = back (more (more (more (more none h) g) f) e); stopped = λ l. absurd (omega arith) })
-
-  pub passed_few : count_leading_zeros 32 r / 8 < 2 ^ 64
-  passed_few = omega (arith, passed_is.few)
-
--- the last four orthants of a code, where they stop the carry
-module _ {up : Bool} {a w q p : ℕ} {code : List ℕ} (read : WordAt code p w) (t : Passed up a w q) (four : 4 ≤ length code) (is : p ≡ length code - 4) where
-  byte_of : (j : ℕ) → length code ≤ j + 4 → j < length code → get_or code j 0 ≡ get_or (bytes_of w) (j - p) 0
-  byte_of j l u = sym (word_byte read j (omega arith) (omega arith))
-
-  last_passed : (j : ℕ) → length code ≤ j + q → j < length code → passes up a (get_or code j 0) ≡ true
-  last_passed j l u = ap (passes up a) (byte_of j (omega (arith, t.few)) u) ∙ t.passed (j - p) (omega (arith, t.few)) (omega arith)
-
-  pub ends_four : q < 4 → {from r : ℕ} → from ≤ length code → r ≡ max from (length code - q) → Ends up a code from r
-  ends_four few {from} {r} room e = record {
-    low = omega arith;
-    within = omega arith;
-    passed = λ j l u. last_passed j (omega arith) u;
-    stopped = λ l. ap (passes up a) (byte_of (r - 1) (omega arith) (omega arith) ∙ ap (λ (x : ℕ). get_or (bytes_of w) x 0) (last l)) ∙ t.stopped few;
-  }
-    where
-      last : from < r → r - 1 - p ≡ 3 - q
-      last l = omega arith
-
-  pub running_four : 4 ≤ q → Running up a code (length code - 4)
-  running_four many = record { within = omega arith; passed = λ j l u. last_passed j (omega arith) u }
 
 -- ---- the flips
 

@@ -1,14 +1,13 @@
 -- The carry of a move against an entry through the orthants of a code: where it ends, and the orthants that it flips.
-use Rattle.std.specs.Prelude.{◌≡◌, Bool, true, false, not, cond, get_or, take, drop, set}
+use Rattle.std.specs.Prelude.{◌≡◌, Bool, true, false, cond, get_or, take, drop}
 use Rattle.std.proofs.Math.Path.{refl, sym}
-use Rattle.std.proofs.Common.{ap, ◌∙◌, length-set, drop-drop, get_or-drop, get_or-set_same, get_or-set_other, get_or-append-add}
+use Rattle.std.proofs.Common.{ap, ◌∙◌, drop-drop, get_or-drop, get_or-append-add}
 use mathlib.Core.List.{List, [], ◌∷◌, ◌++◌}
 use Prim.Native.Nat.{ℕ, zero, suc, ◌+◌, ◌-◌, ◌≤◌, ◌<◌}
 use native.Mathlib.Omega.{arith}
 use Rattle.std.proofs.Math.Decide.{dec_lt}
 use Rattle.std.proofs.Math.ListN.{length, length-append, length-drop, get_or-append}
 use Rattle.std.proofs.Math.Seq.{get_or-take, length-take-le, ext_get_or}
-use Rattle.std.proofs.lemmas.Bool.{not-true, not-false}
 use Rattle.bisection.specs.Codes.{high}
 use Rattle.bisection.specs.Refusals.{same_sign}
 use Rattle.bisection.proofs.Theorems.Checked.{and_false, and_both}
@@ -38,54 +37,12 @@ pub record Running (up : Bool) (a : ℕ) (l : List ℕ) (t : ℕ) : Type 0 where
   pub within : t ≤ length l
   pub passed : (j : ℕ) → t ≤ j → j < length l → passes up a (get_or l j 0) ≡ true
 
-module _ {up : Bool} {a : ℕ} {l : List ℕ} {t : ℕ} (s : Running up a l t) where
-  pub running_next : {from : ℕ} {b : Bool} → from < t → b ≡ passes up a (get_or l (t - 1) 0) → not b ≡ false → Running up a l (t - 1)
-  running_next {b = b} h e q = record { within = omega (arith, s.within); passed = λ j m u. go j m u (dec_lt j t) }
-    where
-      go : (j : ℕ) → t - 1 ≤ j → j < length l → Dec (j < t) → passes up a (get_or l j 0) ≡ true
-      go j m u (yes d) = ap (λ (x : ℕ). passes up a (get_or l x 0)) (omega arith) ∙ sym e ∙ not-false b q
-      go j m u (no d) = s.passed j (omega arith) u
-
-  pub running_stopped : {from : ℕ} {b : Bool} → from < t → b ≡ passes up a (get_or l (t - 1) 0) → not b ≡ true → Ends up a l from t
-  running_stopped {b = b} h e q = record { low = omega arith; within = s.within; passed = s.passed; stopped = λ m. sym e ∙ not-true b q }
-
-  pub running_out : {from : ℕ} → t ≤ from → from ≤ length l → Ends up a l from from
-  running_out h room = record { low = omega arith; within = room; passed = λ j m u. s.passed j (omega arith) u; stopped = λ m. absurd (omega arith) }
-
 -- the places from s to n have their bit of axis a flipped, and the others stay
 pub record Flips (s n a : ℕ) (l r : List ℕ) : Type 0 where
   pub size : length r ≡ length l
   pub before : (j : ℕ) → j < s → get_or r j 0 ≡ get_or l j 0
   pub flips : (j : ℕ) → s ≤ j → j < n → get_or r j 0 ≡ flipped a (get_or l j 0)
   pub past : (j : ℕ) → n ≤ j → get_or r j 0 ≡ get_or l j 0
-
-pub flips_none : (s a : ℕ) (l : List ℕ) → Flips s s a l l
-flips_none s a l = record { size = refl; before = λ j h. refl; flips = λ j h u. absurd (omega arith); past = λ j h. refl }
-
--- up to one place, and from it on
-module _ {s n a : ℕ} {l b : List ℕ} (f : Flips s n a l b) (low : s ≤ n) where
-  pub flips_join : {m : ℕ} {r : List ℕ} → Flips n m a b r → n ≤ m → Flips s m a l r
-  flips_join {m} {r} g h = record {
-    size = g.size ∙ f.size;
-    before = λ j u. g.before j (omega arith) ∙ f.before j u;
-    flips = λ j u w. go j u w (dec_lt j n);
-    past = λ j u. g.past j u ∙ f.past j (omega arith);
-  }
-    where
-      go : (j : ℕ) → s ≤ j → j < m → Dec (j < n) → get_or r j 0 ≡ flipped a (get_or l j 0)
-      go j u w (yes q) = g.before j q ∙ f.flips j u q
-      go j u w (no q) = g.flips j (omega arith) w ∙ ap (flipped a) (f.past j (omega arith))
-
-  pub flips_next : {v : ℕ} → n < length l → v ≡ flipped a (get_or b n 0) → Flips s (n + 1) a l (set b n v)
-  flips_next {v} room e = flips_join (record {
-    size = length-set b n v;
-    before = λ j u. get_or-set_other b n j v 0 (omega arith);
-    flips = λ j u w. ap (λ (x : ℕ). get_or (set b n v) x 0) (here j u w) ∙ get_or-set_same b n v 0 (omega (arith, f.size)) ∙ e ∙ ap (λ (x : ℕ). flipped a (get_or b x 0)) (sym (here j u w));
-    past = λ j u. get_or-set_other b n j v 0 (omega arith);
-  }) (omega arith)
-    where
-      here : (j : ℕ) → n ≤ j → j < n + 1 → j ≡ n
-      here j u w = omega arith
 
 module _ (up : Bool) (a : ℕ) where
   runs_all : (os : List ℕ) → ((i : ℕ) → i < length os → passes up a (get_or os i 0) ≡ true) → runs_out up a os ≡ true

@@ -1,9 +1,8 @@
 -- Entries by value rearranged as the rule table says where a crossing stays in the box.
 use Rattle.std.specs.Prelude.{◌≡◌, refl, Bool, true, false, cond, List, [], ◌∷◌, ℕ, zero, suc, ◌+◌, ◌*◌, ◌/◌, ◌%◌, ◌^◌, ◌≤◌, ◌<◌, eqb, get_or}
-use Rattle.std.proofs.Common.{sym, ◌∙◌, subst, arith, mod-lt, eq-eqb, ne_eqb, le-leb}
+use Rattle.std.proofs.Common.{sym, ◌∙◌, subst, arith, mod-lt, eq-eqb, ne_eqb}
 use Rattle.std.proofs.Math.Path.{ap}
 use Rattle.std.proofs.Math.Decide.{dec_lt, ℕ_discrete}
-use Rattle.std.proofs.lemmas.Bool.{lt-leb}
 use Rattle.bisection.specs.Codes.{axis, minus, negated, turned, high}
 use Rattle.bisection.specs.Refusals.{same_sign}
 use Rattle.bisection.specs.Theorems.Entries.{unturned}
@@ -63,9 +62,6 @@ module _ {d k i : ℕ} {e : Four} (m : Movable d k i e) where
     next_range : n < d
     next_range = rw f (place_within k d (omega (arith, m.two)))
 
-    pub next_few : n < 4
-    next_few = omega (arith, next_range, few)
-
     module _ {w x : ℕ} (h : WordIs e w) (q : x ≡ get_or (bytes_of w) n 0) where
       is_next : x ≡ get_or (four e) n 0
       is_next = q ∙ ap (λ (l : List ℕ). get_or l n 0) (sym h.bytes)
@@ -82,29 +78,12 @@ row_of k m = word_of (entries_by 4 k m (0 ∷ 8 ∷ 16 ∷ 24 ∷ [])) + 32 * ne
 
 -- by its number
 unfoldable pub row_at : ℕ → ℕ
+unfolding row_of within entries_by new_at turned unturned exchanged negated_at negated minus word_of
 row_at n = row_of (n / 8) (within (n / 8) (n / 2 % 4) (eqb (n % 2) 0))
-
--- a number that is none of j numbers from 8 on lies past them
-abbrev pub NoneOf : ℕ → ℕ → Type 0
-NoneOf zero n = Unit
-NoneOf (suc j) n = NoneOf j n × (n ≡ 8 + j → ⊥)
-
-pub past : (j n : ℕ) → 8 ≤ n → NoneOf j n → 8 + j ≤ n
-past zero n l f = l
-past (suc j) n l f = omega (arith, past j n l f.0, f.1)
 
 -- an entry taken from the word of the old ones
 unfoldable pub taken_by : ℕ → ℕ → ℕ
 taken_by w from = cond (minus (from % 256)) (negated (w / 2 ^ (from % 32) % 256)) (w / 2 ^ (from % 32) % 256)
-
-module _ (w from : ℕ) {e : ℕ} (f : e ≡ w / 2 ^ (from % 32) % 256) where
-  pub taken_minus : {r : ℕ} → 128 ≤ from % 256 → r ≡ negated e → r ≡ taken_by w from
-  unfolding taken_by minus
-  taken_minus l g = rw (le-leb 128 (from % 256) l) (g ∙ ap negated f)
-
-  pub taken_plus : from % 256 < 128 → e ≡ taken_by w from
-  unfolding taken_by minus
-  taken_plus l = rw (lt-leb 128 (from % 256) l) f
 
 -- the row as the code takes it: the entries, and the new vertex's place
 abbrev Takes : ℕ → ℕ → Move → Type 0

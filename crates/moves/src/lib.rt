@@ -18,31 +18,18 @@ pub struct Moved {
     pub place: u8,
 }
 
-// One of two places.
-pub fn either(b: bool, x: usize, y: usize) -> usize
-    ensures { result ≡ cond b x y }
-{
-    if b {
-        return x;
-    }
-    y
-}
-
 // The number of a row that stays in the box: 8 k + 2 i, and 1 more where entry k + 1 is against the box's own sign.
 fn number(k: usize, i: usize, own: bool) -> usize
     requires { (1 ≤ k) × (k ≤ 4) × (i < 4) }
     ensures { (result ≡ 8 * k + 2 * i + cond own 0 1) × (8 ≤ result) × (result < 40) }
 {
-    let n = 8 * k + 2 * i;
-    if own {
-        return n;
-    }
-    n + 1
+    8 * k + 2 * i + common::pick(own, 0, 1)
 }
 
 // A row of the rule table, as a word. Of each new entry, the first in the lowest byte, it says at which bit of the old entries' word
 // the old one begins, and 128 more where it is negated; the new vertex's place stands at bit 5. One table and no branch: which row it
 // is can't be foreseen. Rows 32 and 33 are not used: facet 0 leaves the box where k is 4.
+#[tactic(auto, unfolding(crate::specs::Rearranging::row_at))]
 fn row(n: usize) -> u32
     requires { (8 ≤ n) × (n < 40) }
     ensures { result ≡ row_at n }
@@ -85,14 +72,16 @@ fn row(n: usize) -> u32
 }
 
 // A new entry, taken from the word of the old ones as a row's byte says.
+#[tactic(auto, unfolding(crate::specs::Rearranging::taken_by, bisection::specs::Codes::minus))]
 fn taken(old: u32, from: u32) -> u8
     ensures { result ≡ taken_by old from }
 {
     let e = words::byte(old, from % 32);
     if 128 <= from % 256 {
-        return entries::negate(e);
+        entries::negate(e)
+    } else {
+        e
     }
-    e
 }
 
 // The entries of the cell across a facet that stays in the box. Where the dimension has no entry k + 1 the first one stands for it:
@@ -101,7 +90,7 @@ pub fn rearranged(e: Four, d: usize, k: usize, i: usize, own: u8) -> Moved
     requires { Movable d k i e }
     ensures { Rearranges k (within k i (own_next k own (four e))) (four e) result.place (four result.entries) }
 {
-    let old = fours::words::word(e);
+    let old = u32::from(e);
     let next = words::byte_at(old, check::place_in(k, d));
     let by = row(number(k, i, check::same_sign(next, own)));
     Moved {

@@ -36,9 +36,6 @@ module _ {d : ℕ} {e : Four} {n t : ℕ} {root : List ℕ} {p : List Bool} (c :
     range : (1 ≤ j) × (j ≤ d)
     range = rw j_is (split_range d (t - 1) d0)
 
-    pub up_place : 1 ≤ j
-    up_place = range.0
-
     pub up_turn : j - 1 < 4
     up_turn = omega (arith, range, held_few c.held)
 
@@ -99,9 +96,6 @@ module _ {d : ℕ} {e₀ : Four} {n₀ t₀ : ℕ} {e : Four} {n t k boxes : ℕ
     module _ {j : ℕ} (j_is : j ≡ place_above k d) where
       j_at : j ≡ split_place d (t - 1)
       j_at = go_place {boxes = boxes} (rooted_some l.here.cell.rooted) loop_some l.place l.count j_is
-
-      pub loop_place : 1 ≤ j
-      loop_place = up_place l.here.cell odd j j_at
 
       pub loop_turn : j - 1 < 4
       loop_turn = up_turn l.here.cell odd j j_at

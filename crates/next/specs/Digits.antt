@@ -1,15 +1,15 @@
 -- Orthants as the digits of a number, base 16, the first one lowest: compared with bytes, and filled up from a place on.
-use Rattle.std.specs.Prelude.{◌≡◌, Bool, true, false, List, [], ◌∷◌, ◌++◌, ◌≢◌, T, length, get_or, take, drop, replicate}
+use Rattle.std.specs.Prelude.{◌≡◌, Bool, true, false, List, [], ◌∷◌, ◌++◌, T, length, get_or, take, drop, replicate}
 use Rattle.std.proofs.Math.Path.{refl}
-use Rattle.std.proofs.Common.{sym, ap, ◌∙◌, subst, mul_assoc, add-mul, mul-one, zero-add, div-one, suc-add, mod-lt, div-mul-le_self, length-take, length-drop, pow-add, pow_pos, shr-shr, drop-cons, get_or-take, get_or-drop, ext_get_or}
+use Rattle.std.proofs.Common.{sym, ap, ◌∙◌, subst, mul_assoc, add-mul, mul-one, zero-add, div-one, suc-add, mod-lt, length-take, length-drop, pow-add, shr-shr, drop-cons, get_or-take, get_or-drop, ext_get_or}
 use Prim.Native.Nat.{ℕ, zero, suc, ◌+◌, ◌-◌, ◌*◌, ◌/◌, ◌%◌, ◌^◌, min, ◌≤◌, ◌<◌}
 use native.Mathlib.Omega.{arith}
 use Rattle.std.proofs.Math.Decide.{dec_lt}
-use Rattle.std.proofs.Math.Nat.{mod-one, pow-le-pow_right}
+use Rattle.std.proofs.Math.Nat.{mod-one}
 use Rattle.std.proofs.Math.Pow.{high, low}
 use Rattle.std.proofs.lemmas.Nat.{mod-pow-add}
+use Rattle.std.proofs.lemmas.List.{drop-replicate}
 use Rattle.dimension.specs.Sizes.{halvings}
-use Rattle.dimension.specs.Laws.{halvings_few}
 use Rattle.entries.specs.Words.{word_of, bytes_of, four_from, WordAt, four_at, bytes_same, bytes_of_sum, word_sum}
 
 unfoldable pub digits : ℕ → ℕ → List ℕ
@@ -25,12 +25,6 @@ pub record Comparing (n at : ℕ) (bs : List ℕ) (w i left : ℕ) : Type 0 wher
   pub few : i ≤ n
   pub on : take n (drop at bs) ≡ digits n w → take (n - i) (drop (at + i) bs) ≡ digits (n - i) left
   pub back : take (n - i) (drop (at + i) bs) ≡ digits (n - i) left → take n (drop at bs) ≡ digits n w
-
-pub comparing_start : {n at : ℕ} {bs : List ℕ} {w : ℕ} → Comparing n at bs w 0 w
-comparing_start {n} {at} =
-    let a : at + 0 ≡ at = omega arith in
-    let b : n - 0 ≡ n = omega arith in
-    record { few = omega arith; on = λ e. rw (a, b) e; back = λ e. rw (a, b) at e }
 
 module _ {n at : ℕ} {bs : List ℕ} {w i left : ℕ} (c : Comparing n at bs w i left) where
   pub compared : n ≤ i → SameDigits n (take n (drop at bs)) w true
@@ -51,14 +45,14 @@ module _ {n at : ℕ} {bs : List ℕ} {w i left : ℕ} (c : Comparing n at bs w 
     unfolding digits
     digits_split = let more : n - i ≡ suc (n - (i + 1)) = omega arith in rw more refl
 
-    pub compared_not : {low : ℕ} → low ≡ left % 16 → get_or bs (at + i) 0 ≢ low → SameDigits n (take n (drop at bs)) w false
-    compared_not l q = record { equal = λ e. absurd (subst T (sym e) tt); told = λ e. absurd (q (ap (λ (l : List ℕ). get_or l 0 0) (sym split ∙ c.on e ∙ digits_split) ∙ sym l)) }
+    pub compared_not : {x low : ℕ} → x ≡ get_or bs (at + i) 0 → low ≡ left % 16 → (x ≡ low → ⊥) → SameDigits n (take n (drop at bs)) w false
+    compared_not f l q = record { equal = λ e. absurd (subst T (sym e) tt); told = λ e. absurd (q (f ∙ ap (λ (l : List ℕ). get_or l 0 0) (sym split ∙ c.on e ∙ digits_split) ∙ sym l)) }
 
-    pub comparing_on : {low : ℕ} → low ≡ left % 16 → get_or bs (at + i) 0 ≡ low → Comparing n at bs w (i + 1) (left / 16)
-    comparing_on l q = record {
+    pub comparing_on : {x low : ℕ} → x ≡ get_or bs (at + i) 0 → low ≡ left % 16 → x ≡ low → Comparing n at bs w (i + 1) (left / 16)
+    comparing_on f l q = record {
       few = omega arith;
       on = λ e. ap (drop 1) (sym split ∙ c.on e ∙ digits_split);
-      back = λ e. c.back (split ∙ rw (q, l, e) (sym digits_split));
+      back = λ e. c.back (split ∙ rw (← f, q, l, e) (sym digits_split));
     }
 
 -- digit j of a number, and four of them
@@ -90,9 +84,6 @@ digits_sum w from e f g h k = word_sum (digit_at w from) (digit_at w (from + 1))
 -- compared four at a time: those before place i are the same
 pub record SameTo (n at : ℕ) (bs : List ℕ) (w i : ℕ) : Type 0 where
   pub same : (j : ℕ) → j < i → j < n → get_or bs (at + j) 0 ≡ digit_at w j
-
-pub same_none : {n at : ℕ} {bs : List ℕ} {w : ℕ} → SameTo n at bs w 0
-same_none = record { same = λ j l m. absurd (omega arith) }
 
 module _ (n at : ℕ) (bs : List ℕ) (w : ℕ) (room : at + n ≤ length bs) where
   byte_in : (j : ℕ) → j < n → get_or (take n (drop at bs)) j 0 ≡ get_or bs (at + j) 0
@@ -214,34 +205,14 @@ digits_join (suc f) n x y =
     parts : x % 2 ^ (4 * suc f) + y * 2 ^ (4 * suc f) ≡ (x / 16 % 2 ^ (4 * f) + y * 2 ^ (4 * f)) * 16 + x % 16
     parts = rw (first, second) (omega arith)
 
-drop_again : (f n o : ℕ) → drop f (replicate (f + n) o) ≡ replicate n o
-drop_again zero n o = ap (λ (m : ℕ). replicate m o) (zero-add n)
-drop_again (suc f) n o = ap (λ (m : ℕ). drop (suc f) (replicate m o)) (suc-add f n) ∙ drop_again f n o
-
--- the laws of `filled`
-module _ (f o : ℕ) (h : f ≤ halvings) (small : o < 16) where
-  pub fill_places : 4 * f ≤ 60
-  fill_places = omega (arith, halvings_few)
-
-  module _ (p : ℕ) (p_is : p ≡ 2 ^ (4 * f)) where
-    pub fill_some : 0 < p
-    fill_some = rw p_is (pow_pos (4 * f))
-
-    pub fill_high : all_ones * o / p * p < 2 ^ 60
-    fill_high = omega (arith, div-mul-le_self (all_ones * o) p)
-
-    pub fill_low : (boxes : ℕ) → boxes % p < 2 ^ 61
-    fill_low boxes = rw p_is (omega (arith, mod-lt boxes {m = 2 ^ (4 * f)} (pow_pos (4 * f)), pow-le-pow_right {n = 2} (omega arith) {i = 4 * f} {j = 60} fill_places))
-
-    pub fill_is : (boxes : ℕ) → digits halvings (boxes % p + all_ones * o / p * p) ≡ take f (digits halvings boxes) ++ replicate (halvings - f) o
-    fill_is boxes =
-        rw (p_is, ones_are) refl
-        ∙ ap (λ (m : ℕ). digits m (boxes % 2 ^ (4 * f) + ones halvings * o / 2 ^ (4 * f) * 2 ^ (4 * f))) (sym left)
-        ∙ digits_join f (halvings - f) boxes (ones halvings * o / 2 ^ (4 * f))
-        ∙ rw (digits_take f halvings boxes h, digits_drop f (halvings - f) (ones halvings * o), left, digits_own halvings o small) (ap (λ (l : List ℕ). take f (digits halvings boxes) ++ l) again)
-      where
-        left : f + (halvings - f) ≡ halvings
-        left = omega arith
-
-        again : drop f (replicate halvings o) ≡ replicate (halvings - f) o
-        again = ap (λ (m : ℕ). drop f (replicate m o)) (sym left) ∙ drop_again f (halvings - f) o
+-- the law of `filled`
+module _ (f o : ℕ) (h : f ≤ halvings) (small : o < 16) (p : ℕ) (p_is : p ≡ 2 ^ (4 * f)) where
+  pub fill_is : (boxes : ℕ) → digits halvings (boxes % p + all_ones * o / p * p) ≡ take f (digits halvings boxes) ++ replicate (halvings - f) o
+  fill_is boxes =
+      rw (p_is, ones_are) refl
+      ∙ ap (λ (m : ℕ). digits m (boxes % 2 ^ (4 * f) + ones halvings * o / 2 ^ (4 * f) * 2 ^ (4 * f))) (sym left)
+      ∙ digits_join f (halvings - f) boxes (ones halvings * o / 2 ^ (4 * f))
+      ∙ rw (digits_take f halvings boxes h, digits_drop f (halvings - f) (ones halvings * o), left, digits_own halvings o small) (ap (λ (l : List ℕ). take f (digits halvings boxes) ++ l) (drop-replicate f halvings o))
+    where
+      left : f + (halvings - f) ≡ halvings
+      left = omega arith

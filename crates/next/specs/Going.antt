@@ -1,10 +1,11 @@
 -- The cell after a leaf: up without the 1s at the path's end, one step on, and the orthants from there on renewed.
-use Rattle.std.specs.Prelude.{◌≡◌, refl, Bool, false, List, [], ◌∷◌, ◌++◌, length, replicate}
+use Rattle.std.specs.Prelude.{◌≡◌, Bool, false, List, [], ◌∷◌, ◌++◌, Some, None, length, replicate}
 use Rattle.std.proofs.Common.{sym, ◌∙◌, arith}
 use Rattle.std.proofs.Math.Path.{ap, subst}
 use Rattle.std.proofs.Math.Bool.{true}
 use Prim.Native.Nat.{ℕ, suc, ◌+◌, ◌-◌, ◌*◌, ◌^◌, ◌≤◌, ◌<◌}
 use Rattle.std.proofs.Math.Nat.{pow-le-pow_right}
+use Rattle.std.proofs.lemmas.List.{nil_from_length}
 use Rattle.std.proofs.Math.ListN.{take}
 use Rattle.dimension.specs.Sizes.{split_place, box_depth, greatest_depth, halvings}
 use Rattle.dimension.specs.Laws.{split_range, box_under, depth_small}
@@ -19,7 +20,7 @@ use Rattle.next.specs.declared.Up.{Up}
 use Rattle.next.specs.Paths.{zeros, zeros_length, stripped, stripped_short, Zero, zero_last, number, number_under, number_zeros}
 use Rattle.next.specs.Names.{name_at, all_boxes, rooted_range, rooted_some, boxes_step, zeros_entries, zeros_front, stripped_front}
 use Rattle.next.specs.Digits.{digits}
-use Rattle.next.specs.Nexts.{entries_of, next_of, Cell, Stands, ClimbReady, UpIs, AfterReady, Gone, on, over, AfterIs}
+use Rattle.next.specs.Nexts.{entries_of, next_of, Cell, Stands, ClimbReady, UpIs, AfterReady, On, AfterIs}
 
 number_small : (p : List Bool) → length p ≤ 60 → number p < 2 ^ 60
 number_small p h = omega (arith, number_under p, pow-le-pow_right {n = 2} (omega arith) {i = length p} {j = 60} h)
@@ -47,11 +48,7 @@ module _ {d : ℕ} {s : Next} {root : List ℕ} {p : List Bool} (st : Stands d s
   -- what is left without the 1s at the end
   module _ (u : Up) (c : Cell d u.entries u.path u.depth root (stripped q)) where
     pub leaf_over : u.depth ≡ 0 → stripped q ≡ []
-    leaf_over e = none (stripped q) (sym c.depth_is ∙ e)
-      where
-        none : (x : List Bool) → length x ≡ 0 → x ≡ []
-        none [] h = refl
-        none (b ∷ x) h = absurd (omega arith)
+    leaf_over e = nil_from_length (stripped q) (sym c.depth_is ∙ e)
 
     module _ (some : u.depth ≡ 0 → ⊥) where
       z : Zero q
@@ -83,9 +80,6 @@ module _ {d : ℕ} {s : Next} {root : List ℕ} {p : List Bool} (st : Stands d s
         range : (1 ≤ k) × (k ≤ d)
         range = rw k_is (split_range d (u.depth - 1) (rooted_some c.rooted))
 
-        pub on_place : 1 ≤ k
-        on_place = range.0
-
         pub on_turn : k - 1 < 4
         on_turn = omega (arith, range, held_few held)
 
@@ -105,12 +99,16 @@ module _ {d : ℕ} {s : Next} {root : List ℕ} {p : List Bool} (st : Stands d s
             on_own = rw is_own (omega (arith, orthant_fits on_held.signed, pow-le-pow_right {n = 2} (omega arith) {i = d} {j = 4} (held_few on_held)))
 
             pub on_stands : (boxes : ℕ) → digits halvings boxes ≡ take (box_depth d (u.depth - 1)) (digits halvings s.boxes) ++ replicate (halvings - box_depth d (u.depth - 1)) own
-                → Gone d root q (record { more = true; next = next_of e boxes u.depth (u.path + 1) })
-            on_stands boxes b = on r z.is refl (record {
-              cell = record { rooted = c.rooted; held = on_held; path_is = unfold number in omega (arith, here.path_is); depth_is = here.depth_is };
-              deep = room;
-              boxes_are = b ∙ rw (above_is, st.boxes_are, is_own, ← front) (sym (boxes_step c.rooted true r room));
-            })
+                → On d root q (next_of e boxes u.depth (u.path + 1))
+            on_stands boxes b = record {
+              path = r;
+              last = z.is;
+              stands = record {
+                cell = record { rooted = c.rooted; held = on_held; path_is = unfold number in omega (arith, here.path_is); depth_is = here.depth_is };
+                deep = room;
+                boxes_are = b ∙ rw (above_is, st.boxes_are, is_own, ← front) (sym (boxes_step c.rooted true r room));
+              };
+            }
               where
                 leaf_front : (name_at d root q).orthants ≡ take (box_depth d (length q)) (all_boxes d root p)
                 leaf_front = zeros_front c.rooted n p (omega (arith, D_is)) ∙ ap (λ (m : ℕ). take (box_depth d m) (all_boxes d root p)) (sym (zeros_length n p))
@@ -127,9 +125,6 @@ pub record Risen (d : ℕ) (s : Next) (D : ℕ) (u : Up) : Type 0 where
 
 -- the laws of `after`: its needs for the one cell that it is ready for, its answer for all
 module _ {d : ℕ} {s : Next} {D : ℕ} (y : AfterReady d s D) where
-  pub after_above : s.depth ≤ D
-  after_above = omega (arith, y.depth_is, y.stands.cell.depth_is)
-
   pub after_short : D - s.depth ≤ 60
   after_short = omega (arith, leaf_short y.stands y.n D y.depth_is y.deep)
 
@@ -148,8 +143,8 @@ module _ {d : ℕ} {s : Next} {D : ℕ} (y : AfterReady d s D) where
       after_risen up = record { ready = y; place_is = up.place_is; boxes_are = up.boxes_are; cells = λ root p n st e. up.up root (zeros n p) (cell_at root p n st e) }
 
 module _ {d : ℕ} {s : Next} {D : ℕ} {u : Up} (r : Risen d s D u) where
-  pub after_over : {x : Next} → u.depth ≡ 0 → AfterIs d s D (record { more = false; next = x })
-  after_over z = record { gone = λ root p n st e. over (leaf_over st n D e r.ready.deep u (r.cells root p n st e) z) refl }
+  pub after_over : u.depth ≡ 0 → AfterIs d s D None
+  after_over z = record { gone = λ root p n st e. leaf_over st n D e r.ready.deep u (r.cells root p n st e) z }
 
   module _ (some : u.depth ≡ 0 → ⊥) where
     mine : Cell d u.entries u.path u.depth r.ready.root (stripped (zeros r.ready.n r.ready.path))
@@ -172,9 +167,6 @@ module _ {d : ℕ} {s : Next} {D : ℕ} {u : Up} (r : Risen d s D u) where
         k_is : k ≡ split_place d (u.depth - 1)
         k_is = go_place {boxes = u.boxes} d0 (omega (arith, some)) r.place_is r.boxes_are (rw axes at k_above)
 
-        pub after_place : 1 ≤ k
-        after_place = on_place r.ready.stands r.ready.n D r.ready.depth_is r.ready.deep u mine some k k_is
-
         pub after_turn : k - 1 < 4
         after_turn = on_turn r.ready.stands r.ready.n D r.ready.depth_is r.ready.deep u mine some k k_is
 
@@ -186,5 +178,5 @@ module _ {d : ℕ} {s : Next} {D : ℕ} {u : Up} (r : Risen d s D u) where
           after_fill = (rw l_is (on_boxes r.ready.stands r.ready.n D r.ready.depth_is r.ready.deep u mine some), on_own r.ready.stands r.ready.n D r.ready.depth_is r.ready.deep u mine some k k_is e e_is own own_is)
 
           pub after_on : {boxes : ℕ} → digits halvings boxes ≡ take l (digits halvings s.boxes) ++ replicate (halvings - l) own
-              → AfterIs d s D (record { more = true; next = next_of e boxes u.depth (u.path + 1) })
+              → AfterIs d s D (Some (next_of e boxes u.depth (u.path + 1)))
           after_on {boxes} b = record { gone = λ root p n st f. on_stands st n D f r.ready.deep u (r.cells root p n st f) some k k_is e e_is own own_is boxes (rw l_is at b) }

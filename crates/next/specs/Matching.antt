@@ -1,6 +1,6 @@
 -- The laws of `matches`. A code of the cell or of a first one inside it fixes the bytes: the dimension, a depth, the cell's
 -- entries, and the front of its orthants. So each test is passed by such bytes, and bytes that pass them all are such a code.
-use Rattle.std.specs.Prelude.{◌≡◌, Bool, true, false, not, ℕ, ◌+◌, ◌-◌, ◌^◌, ◌≤◌, ◌<◌, get_or, take, T}
+use Rattle.std.specs.Prelude.{◌≡◌, Bool, true, false, not, Some, None, ℕ, ◌+◌, ◌-◌, ◌^◌, ◌≤◌, ◌<◌, get_or, take, T}
 use Rattle.std.proofs.Math.Path.{refl, ap}
 use Rattle.std.proofs.Common.{sym, ◌∙◌, subst, arith, length-take, length-drop, length-append, take-add}
 use mathlib.Core.List.{List, [], ◌∷◌, ◌++◌, append_assoc}
@@ -113,33 +113,33 @@ pub boxes_within : (dim : Dim) {most D L : ℕ} → most ≡ greatest_depth (axe
 boxes_within dim {D = D} e f l = rw f (box_in (axes_of dim) D (omega (arith, (axes_range dim).two)) (omega (arith, e)))
 
 -- a test that fails
-not_matched : {d : ℕ} {s : Next} {bs : List ℕ} → (Shaped d s bs → ⊥) → MatchIs d s bs (record { length = 0; depth = 0; boxes = 0 })
-not_matched n = record { room = omega arith; hit = λ root p st q. absurd (q refl); told = λ root p st f. absurd (n (first_shaped st f)) }
+not_matched : {d : ℕ} {s : Next} {bs : List ℕ} → (Shaped d s bs → ⊥) → MatchIs d s bs None
+not_matched n = record { room = tt; told = λ root p st f. n (first_shaped st f) }
 
 false_true : {t : Bool} → not t ≡ true → t ≡ true → ⊥
 false_true {t} n e = subst T (sym e ∙ not-true t n) tt
 
 -- a is the number of axes, D the depth and L the number of boxes, as `matches` has them
 module _ {d : ℕ} {s : Next} {bs : List ℕ} where
-  pub other_dimension : {a x : ℕ} → a ≡ d → x ≡ get_or bs 0 0 → (x ≡ a → ⊥) → MatchIs d s bs (record { length = 0; depth = 0; boxes = 0 })
+  pub other_dimension : {a x : ℕ} → a ≡ d → x ≡ get_or bs 0 0 → (x ≡ a → ⊥) → MatchIs d s bs None
   other_dimension e f n = not_matched (λ h. n (f ∙ shaped_dimension h ∙ sym e))
 
   module _ {D : ℕ} (deep : D ≡ get_or bs 1 0) where
-    pub not_inside : D < s.depth → MatchIs d s bs (record { length = 0; depth = 0; boxes = 0 })
+    pub not_inside : D < s.depth → MatchIs d s bs None
     not_inside l = not_matched (λ h. omega (arith, deep, shaped_depth h, h.above))
 
-    pub too_deep : {most : ℕ} → most ≡ greatest_depth d → most < D → MatchIs d s bs (record { length = 0; depth = 0; boxes = 0 })
+    pub too_deep : {most : ℕ} → most ≡ greatest_depth d → most < D → MatchIs d s bs None
     too_deep e l = not_matched (λ h. omega (arith, e, deep, shaped_depth h, h.deep))
 
     module _ {a L : ℕ} (axes : a ≡ d) (boxes : L ≡ box_depth d D) where
-      pub no_room : length bs < 2 + a + L → MatchIs d s bs (record { length = 0; depth = 0; boxes = 0 })
+      pub no_room : length bs < 2 + a + L → MatchIs d s bs None
       no_room l = not_matched (λ h. omega (arith, axes, boxes, ap (box_depth d) (deep ∙ shaped_depth h), shaped_room h))
 
-      pub other_boxes : {r : Bool} → SameDigits L (take L (drop (2 + a) bs)) s.boxes r → not r ≡ true → MatchIs d s bs (record { length = 0; depth = 0; boxes = 0 })
+      pub other_boxes : {r : Bool} → SameDigits L (take L (drop (2 + a) bs)) s.boxes r → not r ≡ true → MatchIs d s bs None
       other_boxes t n = not_matched (λ h. false_true n (t.told (rw (axes, boxes, deep, shaped_depth h) (shaped_boxes h))))
 
   pub other_entries : {a : ℕ} {x es : Four} {r : Bool} → a ≡ d → four x ≡ paste no_entries 0 (drop 2 bs) a → es ≡ entries_of s → SameFour x es r → not r ≡ true
-      → MatchIs d s bs (record { length = 0; depth = 0; boxes = 0 })
+      → MatchIs d s bs None
   other_entries {x = x} e f g t n = not_matched (λ h. false_true n (t.told (rw g (shaped_entries h x (rw e at f)))))
 
 pub length_fits : {d a D most L : ℕ} → a ≡ d → Dimension d → most ≡ greatest_depth d → D ≤ most → L ≡ box_depth d D → 2 + a + L < 2 ^ 64
@@ -168,8 +168,8 @@ module _ {d : ℕ} (s : Next) (D L : ℕ) (bs : List ℕ) (dim : get_or bs 0 0 �
       two = first_two bs (omega arith) ∙ rw (dim, dep) refl
 
   module _ (x : Four) (x_is : four x ≡ paste no_entries 0 (drop 2 bs) d) (same : four x ≡ four (entries_of s)) (alike : take L (drop (2 + d) bs) ≡ digits L s.boxes) where
-    matched : MatchIs d s bs (record { length = 2 + d + L; depth = D; boxes = L })
-    matched = record { room = room; hit = λ root p st q. hit root p st; told = λ root p st f q. omega (arith, q) }
+    matched : MatchIs d s bs (Some (record { length = 2 + d + L; depth = D; boxes = L }))
+    matched = record { room = room; told = hit }
       where
         hit : (root : List ℕ) (p : List Bool) → Stands d s root p → Matched root p bs (record { length = 2 + d + L; depth = D; boxes = L })
         hit root p st = record {
@@ -205,9 +205,9 @@ module _ {d : ℕ} (s : Next) (D L : ℕ) (bs : List ℕ) (dim : get_or bs 0 0 �
 
 pub all_matched : {d a x D most L : ℕ} {s : Next} {bs : List ℕ} {f es : Four} {r t : Bool} → a ≡ d → x ≡ get_or bs 0 0 → x ≡ a → D ≡ get_or bs 1 0 → s.depth ≤ D → most ≡ greatest_depth d → D ≤ most
     → L ≡ box_depth d D → 2 + a + L ≤ length bs → four f ≡ paste no_entries 0 (drop 2 bs) a → es ≡ entries_of s → SameFour f es r → not r ≡ false
-    → SameDigits L (take L (drop (2 + a) bs)) s.boxes t → not t ≡ false → MatchIs d s bs (record { length = 2 + a + L; depth = D; boxes = L })
+    → SameDigits L (take L (drop (2 + a) bs)) s.boxes t → not t ≡ false → MatchIs d s bs (Some (record { length = 2 + a + L; depth = D; boxes = L }))
 all_matched {d} {D = D} {L = L} {s = s} {bs = bs} {f = f} {r = r} {t = t} axes x_is x_a dep above most deep boxes room f_is es_are same r_is alike t_is =
-    subst (λ (n : ℕ). MatchIs d s bs (record { length = 2 + n + L; depth = D; boxes = L })) (sym axes)
+    subst (λ (n : ℕ). MatchIs d s bs (Some (record { length = 2 + n + L; depth = D; boxes = L }))) (sym axes)
     (matched s D L bs (sym x_is ∙ x_a ∙ axes) (sym dep) boxes above (rw most at deep) (rw axes at room) f (rw axes at f_is) ((rw es_are at same).equal (not-false r r_is)) (rw axes at (alike.equal (not-false t t_is))))
 
 -- what matches is ready for the next

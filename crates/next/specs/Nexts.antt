@@ -1,5 +1,5 @@
 -- What the next cell stands for, and what the functions answer: each for whatever root and path it stands for.
-use Rattle.std.specs.Prelude.{◌≡◌, Bool, true, false, List, [], ◌∷◌, ◌≢◌, ℕ, ◌+◌, ◌≤◌, ◌<◌, length, get_or}
+use Rattle.std.specs.Prelude.{◌≡◌, Bool, true, false, List, [], ◌∷◌, Option, Some, None, IfSome, ℕ, ◌+◌, ◌≤◌, ◌<◌, length, get_or}
 use Rattle.dimension.specs.Sizes.{greatest_depth, halvings, split_place, box_depth}
 use Rattle.bisection.specs.Roots.{roots}
 use Rattle.bisection.specs.Codes.{IsCodeOf}
@@ -9,7 +9,6 @@ use Rattle.fours.specs.Fours.{Holds}
 use Rattle.next.specs.declared.Next.{Next}
 use Rattle.next.specs.declared.Match.{Match}
 use Rattle.next.specs.declared.Up.{Up}
-use Rattle.next.specs.declared.Onward.{Onward}
 use Rattle.next.specs.Paths.{steps, zeros, stripped, number}
 use Rattle.next.specs.Names.{name_at, all_boxes, Rooted}
 use Rattle.next.specs.Digits.{digits}
@@ -44,11 +43,15 @@ pub record Matched (root : List ℕ) (p : List Bool) (bs : List ℕ) (r : Match)
   pub depth_is : r.depth ≡ first.n + length p
   pub boxes_are : r.boxes ≡ box_depth (length root) r.depth
 
--- the code at the front of bytes is that of the cell or of the first one inside it, exactly where a length is told
-pub record MatchIs (d : ℕ) (s : Next) (bs : List ℕ) (r : Match) : Type 0 where
-  pub room : r.length ≤ length bs
-  pub hit : (root : List ℕ) (p : List Bool) → Stands d s root p → r.length ≢ 0 → Matched root p bs r
-  pub told : (root : List ℕ) (p : List Bool) → Stands d s root p → First root p (front_code bs) → r.length ≢ 0
+-- a match is that of the code at the front of bytes; where there is none, the code is not that of the cell nor of a first one inside
+abbrev pub Matching : List ℕ → List Bool → List ℕ → Option Match → Type 0
+Matching root p bs (Some m) = Matched root p bs m
+Matching root p bs None = First root p (front_code bs) → ⊥
+
+-- the code at the front of bytes is that of the cell or of the first one inside it, exactly where there is a match
+pub record MatchIs (d : ℕ) (s : Next) (bs : List ℕ) (r : Option Match) : Type 0 where
+  pub room : IfSome r (λ m. m.length ≤ length bs)
+  pub told : (root : List ℕ) (p : List Bool) → Stands d s root p → Matching root p bs r
 
 pub record ClimbReady (d : ℕ) (e : Four) (n t : ℕ) : Type 0 where
   pub root : List ℕ
@@ -69,12 +72,18 @@ pub record AfterReady (d : ℕ) (s : Next) (D : ℕ) : Type 0 where
   pub depth_is : D ≡ n + length path
   pub deep : D ≤ greatest_depth d
 
--- after the leaf with path q: the last 0 that only 1s follow becomes 1; or there is none, and the root is done
-pub data Gone (d : ℕ) (root : List ℕ) (q : List Bool) (r : Onward) : Type 0 where
-  on : (p : List Bool) → stripped q ≡ false ∷ p → r.more ≡ true → Stands d r.next root (true ∷ p) → Gone d root q r
-  over : stripped q ≡ [] → r.more ≡ false → Gone d root q r
+-- the cell after the leaf with path q: the last 0 that only 1s follow becomes 1
+pub record On (d : ℕ) (root : List ℕ) (q : List Bool) (next : Next) : Type 0 where
+  pub path : List Bool
+  pub last : stripped q ≡ false ∷ path
+  pub stands : Stands d next root (true ∷ path)
 
-pub record AfterIs (d : ℕ) (s : Next) (D : ℕ) (r : Onward) : Type 0 where
+-- or there is none, and the root is done
+abbrev pub Gone : ℕ → List ℕ → List Bool → Option Next → Type 0
+Gone d root q (Some next) = On d root q next
+Gone d root q None = stripped q ≡ []
+
+pub record AfterIs (d : ℕ) (s : Next) (D : ℕ) (r : Option Next) : Type 0 where
   pub gone : (root : List ℕ) (p : List Bool) (n : ℕ) → Stands d s root p → D ≡ n + length p → Gone d root (zeros n p) r
 
 -- the root itself

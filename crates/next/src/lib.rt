@@ -31,8 +31,7 @@ pub struct Next {
     pub path: u64,
 }
 
-// The code of the next cell, or of the first one inside it: its length, 0 where bytes do not begin with one, its depth, and how
-// many boxes it has.
+// The code of the next cell, or of the first one inside it: its length, its depth, and how many boxes it has.
 #[derive(Clone, Copy)]
 pub struct Match {
     pub length: usize,
@@ -40,23 +39,24 @@ pub struct Match {
     pub boxes: usize,
 }
 
-// The entries of the next cell.
-fn entries(next: Next) -> Four
-    ensures { result ≡ entries_of next }
-{
-    Four {
-        first: next.first,
-        second: next.second,
-        third: next.third,
-        fourth: next.fourth,
+impl Next {
+    fn entries(self) -> Four
+        ensures { result ≡ entries_of self }
+    {
+        Four {
+            first: self.first,
+            second: self.second,
+            third: self.third,
+            fourth: self.fourth,
+        }
     }
 }
 
 // The lowest digit of a number.
-fn lowest(w: u64) -> u8
-    ensures { result ≡ w % 16 }
+fn digit(w: u64) -> u32
+    ensures { (result ≡ w % 16) × (result < 16) }
 {
-    (w % 16) as u8
+    (w % 16) as u32
 }
 
 // The n bytes from a place on are the first n digits of a number: one by one, where there are few.
@@ -65,25 +65,17 @@ fn same_few(bytes: &[u8], at: usize, n: usize, boxes: u64) -> bool
     ensures { SameDigits n (take n (drop at bytes.now)) boxes result }
 {
     let mut left = boxes;
-    let mut i: usize = 0;
-    while i < n {
-        if bytes[at + i] != lowest(left) {
+    for i in 0..n {
+        if u32::from(bytes[at + i]) != digit(left) {
             return false;
         }
-        left = left / 16;
-        i += 1;
+        left /= 16;
     }
     true
 }
 
-// The lowest digit, as wide as a word.
-fn digit(w: u64) -> u32
-    ensures { (result ≡ w % 16) × (result < 16) }
-{
-    (w % 16) as u32
-}
-
 // Four digits of a number, from a place on, as the bytes of a word.
+#[tactic(auto, using(crate::specs::Digits::digits_sum))]
 fn four_digits(boxes: u64, from: usize) -> u32
     requires { from < 16 }
     ensures { result ≡ word_of (four_digits boxes from) }
@@ -101,54 +93,47 @@ fn same_boxes(bytes: &[u8], at: usize, n: usize, boxes: u64) -> bool
     if n < 4 {
         return same_few(bytes, at, n, boxes);
     }
-    let mut i: usize = 0;
-    while i < Dim::HALVINGS {
-        let from = check::lower(i, n - 4);
+    for i in (0..Dim::HALVINGS).step_by(4) {
+        let from = i.min(n - 4);
         if words::word_at(bytes, at + from) != four_digits(boxes, from) {
             return false;
         }
-        i += 4;
     }
     true
 }
 
 // Whether the bytes begin with the code of the next cell, or of the first one inside it at the depth that they name.
-pub fn matches(next: Next, dim: Dim, bytes: &[u8]) -> Match
+pub fn matches(next: Next, dim: Dim, bytes: &[u8]) -> Option<Match>
     requires { 2 ≤ length bytes.now }
     ensures { MatchIs (axes_of dim) next bytes.now result }
 {
-    let none = Match {
-        length: 0,
-        depth: 0,
-        boxes: 0,
-    };
     let axes = dim.axes();
-    let depth = common::size(bytes[1]);
-    if common::size(bytes[0]) != axes {
-        return none;
+    let depth = usize::from(bytes[1]);
+    if usize::from(bytes[0]) != axes {
+        return None;
     }
     if depth < next.depth {
-        return none;
+        return None;
     }
     if dim.greatest_depth() < depth {
-        return none;
+        return None;
     }
     let boxes = dim.box_depth(depth);
     let length = 2 + axes + boxes;
     if bytes.len() < length {
-        return none;
+        return None;
     }
-    if !fours::same(fours::entries_of(bytes, 2, axes), entries(next)) {
-        return none;
+    if !fours::same(fours::entries_of(bytes, 2, axes), next.entries()) {
+        return None;
     }
     if !same_boxes(bytes, 2 + axes, boxes, next.boxes) {
-        return none;
+        return None;
     }
-    Match {
+    Some(Match {
         length,
         depth,
         boxes,
-    }
+    })
 }
 
 // A cell on the way up: its entries, its path as a number and its depth; its split place, and how many boxes it has.
@@ -161,7 +146,8 @@ struct Up {
     boxes: usize,
 }
 
-// Drops the 1s at a path's end: up to the first cell whose last step is no 1. Its boxes are counted step by step.
+// Drops the 1s at a path's end: up to the first cell whose last step is no 1. Its boxes are counted step by step. The entries are four
+// locals: one `Four` carried along was slower (13.1 ns against 12.0 for the way up from a leaf).
 fn climb(from: Four, path: u64, depth: usize, count: usize, dim: Dim) -> Up
     requires { ClimbReady (axes_of dim) from path depth × (count ≡ box_depth (axes_of dim) depth) }
     ensures { UpIs (axes_of dim) from path depth result }
@@ -189,7 +175,7 @@ fn climb(from: Four, path: u64, depth: usize, count: usize, dim: Dim) -> Up
         second = back.second;
         third = back.third;
         fourth = back.fourth;
-        left = left / 2;
+        left /= 2;
         t -= 1;
     }
     let entries = Four {
@@ -208,52 +194,44 @@ fn climb(from: Four, path: u64, depth: usize, count: usize, dim: Dim) -> Up
 }
 
 // The digits from a place on, all replaced by one.
+#[tactic(auto, using(dimension::specs::Laws::halvings_few, crate::specs::Digits::fill_is))]
 fn filled(boxes: u64, from: usize, own: u8) -> u64
     requires { (from ≤ halvings) × (own < 16) }
     ensures { digits halvings result ≡ take from (digits halvings boxes) ++ replicate (halvings - from) own }
 {
     let p = positions::power(4 * from);
-    boxes % p + ONES * positions::wide(own) / p * p
-}
-
-// The cell after a leaf, where the root has one more.
-#[derive(Clone, Copy)]
-pub struct Onward {
-    pub more: bool,
-    pub next: Next,
+    boxes % p + ONES * u64::from(own) / p * p
 }
 
 // The cell after the leaf of a depth, with so many boxes, that is the next cell or the first one inside it: the 1s at its path's end are dropped, and
-// the last 0 becomes 1. That costs as many steps up as were gone down.
-pub fn after(next: Next, dim: Dim, depth: usize, count: usize) -> Onward
+// the last 0 becomes 1; there is none where the root is done. That costs as many steps up as were gone down.
+pub fn after(next: Next, dim: Dim, depth: usize, count: usize) -> Option<Next>
     requires { AfterReady (axes_of dim) next depth × (count ≡ box_depth (axes_of dim) depth) }
     ensures { AfterIs (axes_of dim) next depth result }
 {
     let path = next.path * positions::power(depth - next.depth);
-    let up = climb(entries(next), path, depth, count, dim);
+    let up = climb(next.entries(), path, depth, count, dim);
     if up.depth == 0 {
-        return Onward { more: false, next };
+        return None;
     }
     let axes = dim.axes();
     let place = steps::place_above(up.place, axes);
     let turned = fours::turned_on(up.entries, place - 1);
     let above = steps::boxes_above(up.boxes, up.place, axes);
     let boxes = filled(next.boxes, above, fours::own_of(turned));
-    Onward {
-        more: true,
-        next: Next {
-            first: turned.first,
-            second: turned.second,
-            third: turned.third,
-            fourth: turned.fourth,
-            boxes,
-            depth: up.depth,
-            path: up.path + 1,
-        },
-    }
+    Some(Next {
+        first: turned.first,
+        second: turned.second,
+        third: turned.third,
+        fourth: turned.fourth,
+        boxes,
+        depth: up.depth,
+        path: up.path + 1,
+    })
 }
 
 // The first cell of a root, by the root's number: the root itself. Past the last root it gives the first one again.
+#[tactic(auto, using(crate::specs::Starts::root_under, crate::specs::Starts::first_is))]
 pub fn first(dim: Dim, n: usize) -> Next
     ensures { FirstIs (axes_of dim) n result }
 {

@@ -4,10 +4,6 @@ use Rattle.dimension.specs.Sizes.{cube_side}
 use Rattle.bisection.specs.Cells.{Point, coordinate}
 use Rattle.bisection.specs.Refusals.{each}
 
--- point has not d coordinates, or one outside 0 to 4096
-abbrev pub refused_point : ℕ
-refused_point = 12
-
 -- a coordinate is two bytes, low byte first
 unfoldable pub point_of : List ℕ → Point
 point_of [] = []

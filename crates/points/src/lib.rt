@@ -1,4 +1,2 @@
-// Points in closed cells: definitions, and the theorems about them. Its code is the refusal number of a point.
+// Points in closed cells: definitions, and the theorems about them. There is no code here.
 #![tactic(auto)]
-
-pub const REFUSED_POINT: u8 = 12;

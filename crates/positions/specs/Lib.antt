@@ -10,5 +10,5 @@ pub mod DictionaryOrder
 -- What the proofs of the walk up from a code use.
 pub mod Walks
 pub mod Places
--- The table of the roots.
+-- Where the roots of a dimension begin in their table.
 pub mod RootTable

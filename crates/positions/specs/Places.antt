@@ -22,21 +22,13 @@ use Rattle.positions.specs.Positions.{start_of, size_of, PositionIs}
 use Rattle.positions.specs.RootNumbers.{number_in, number_front, numbered}
 use Rattle.positions.specs.Walks.{WalkReady, Reached}
 
--- d and D are the dimension and the depth, read from the code
-module _ (code : List ℕ) (e : code_refusal code ≡ done) {d D : ℕ} (first : d ≡ get_or code 0 0) (second : D ≡ get_or code 1 0) where
+-- as the code has the dimension and the depth
+module _ (code : List ℕ) (e : code_refusal code ≡ done) {d D : ℕ} (ax : d ≡ dimension_of code) (dp : D ≡ depth_of code) where
   k : Checked code
   k = checked code e
 
   c : IsCodeOf code (root_of code) (path_of code)
   c = code_path code e
-
-  ax : d ≡ dimension_of code
-  unfolding dimension_of
-  ax = first
-
-  dp : D ≡ depth_of code
-  unfolding depth_of
-  dp = second
 
   pub place_deep : {most : ℕ} → most ≡ greatest_depth d → D ≤ most
   place_deep g = rw (g, ax, dp) k.good.depth
@@ -50,9 +42,6 @@ module _ (code : List ℕ) (e : code_refusal code ≡ done) {d D : ℕ} (first :
   module _ {n : ℕ} (same : n ≡ d) where
     pub place_axes : (2 ≤ n) × (n ≤ 4) × (2 + n ≤ length code)
     place_axes = rw same (code_axes code e ax dp refl)
-
-    pub place_few : n ≤ 4
-    place_few = place_axes.1
 
     module _ {from : Four} (f : four from ≡ paste no_entries 0 (drop 2 code) n) {most size : ℕ} (g : most ≡ greatest_depth d) (s : size ≡ 2 ^ (most - D)) where
       f_is : four from ≡ paste no_entries 0 (drop 2 code) d

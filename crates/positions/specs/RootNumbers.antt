@@ -57,29 +57,21 @@ number_under d root (suc i) h = rw more (omega (arith, step (number_in d root i)
     step : (x y s p : ℕ) → x + 1 ≤ p → y ≤ 4 → s ≤ 4 → x * y + s + 1 ≤ 2 * (2 * (2 * p))
     step x y s p a b c = omega (arith, mul-le-mul_left x b)
 
--- the loop that numbers a root: n is the number that the first i entries give
-pub record Numbering (d : ℕ) (root : List ℕ) (n i : ℕ) : Type 0 where
-  pub few : d ≤ 4
-  pub inside : i ≤ d
-  pub is : n ≡ number_in d root i
-
-pub numbering_start : {d : ℕ} {root : List ℕ} → d ≤ 4 → Numbering d root 0 0
+-- the loop that numbers a root
+pub number_none : (d : ℕ) (root : List ℕ) → number_in d root 0 ≡ 0
 unfolding number_in
-numbering_start h = record { few = h; inside = omega arith; is = refl }
+number_none d root = refl
 
-module _ {d : ℕ} {root : List ℕ} {n i : ℕ} (k : Numbering d root n i) where
-  pub numbering_times : n * (d - i) < 2 ^ 15
-  numbering_times = let four : d - i ≤ 4 = omega (arith, k.few) in omega (arith, mul-le-mul_left n four, k.is, number_under d root i k.few, pow-lt {i = 3 * i} {j = 13} (omega (arith, k.inside, k.few)))
+pub number_more : (d : ℕ) (root : List ℕ) (i : ℕ) → number_in d root (i + 1) ≡ number_in d root i * (d - i) + smaller_in root i d
+unfolding number_in
+number_more d root i = rw add-one refl
 
-  pub numbering_sum : {s : ℕ} → s ≡ smaller_in root i d → n * (d - i) + s < 2 ^ 16
-  numbering_sum e = omega (arith, numbering_times, e, smaller_few root i d, k.few)
+pub number_times : (d : ℕ) (root : List ℕ) (i : ℕ) → d ≤ 4 → i ≤ d → number_in d root i * (d - i) < 2 ^ 15
+number_times d root i h l = let four : d - i ≤ 4 = omega arith in
+    omega (arith, mul-le-mul_left (number_in d root i) four, number_under d root i h, pow-lt {i = 3 * i} {j = 13} (omega arith))
 
-  pub numbering_next : {s : ℕ} → i < d → s ≡ smaller_in root i d → Numbering d root (n * (d - i) + s) (i + 1)
-  unfolding number_in
-  numbering_next h e = record { few = k.few; inside = omega arith; is = rw (add-one i, k.is, e) refl }
-
-  pub numbering_end : d ≤ i → n ≡ number_in d root d
-  numbering_end h = k.is ∙ ap (number_in d root) (omega (arith, k.inside))
+-- the laws that `number` uses
+pub ruleset numbering = (number_none, number_more, number_times, smaller_few)
 
 -- the number looks at the front alone
 smaller_front : (root rest : List ℕ) (i j : ℕ) → i < length root → j ≤ length root → smaller_in (root ++ rest) i j ≡ smaller_in root i j

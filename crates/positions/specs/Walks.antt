@@ -9,7 +9,7 @@ use Rattle.bisection.specs.Refusals.{same_sign}
 use Rattle.entries.specs.Walks.{own_byte}
 use Rattle.fours.specs.Fours.{BackIs}
 use Rattle.steps.specs.Above.{boxes_above, place_above}
-use Rattle.steps.specs.Climbs.{ClimbReady, Climbed, Rising, path_on, rise_none, rise_next, rise_done}
+use Rattle.steps.specs.Climbs.{ClimbReady, Climbed, Rising, path_on, rise_none, rise_next}
 use Rattle.positions.specs.Positions.{start_of}
 
 -- the walk's path is in no buffer: it stands as so many zeros before
@@ -75,9 +75,6 @@ module _ {d D : ℕ} {code root : List ℕ} {t k boxes : ℕ} {root' : List ℕ}
     weighed : x * half ≤ half
     weighed = times_one x half (omega (arith, step_small s))
 
-    pub walk_weight : x * half < 2 ^ 64
-    walk_weight = omega (arith, weighed, half_small)
-
     pub walk_start : start + x * half < 2 ^ 64
     walk_start = omega (arith, weighed, half_small, w.inside)
 
@@ -111,19 +108,3 @@ module _ {d D : ℕ} {code root : List ℕ} {t k boxes : ℕ} {root' : List ℕ}
 
         lead : start_of (suc (greatest_depth d - t)) (b ∷ take (D - t) (drop t w.path)) ≡ start + x * half
         lead = unfold start_of in rw (one, ← w.start_is, ← w.half_is, ← e) (omega arith)
-
-pub walk_done : {d D a t k boxes start half : ℕ} {code root root' : List ℕ} → Walked d D code root t k boxes root' start half → d ≡ a → t ≤ 0 → Reached a D code root root' start
-walk_done {d} {D} {t = t} {start = start} {code = code} {root = root} {root' = root'} w e z = subst (λ (n : ℕ). Reached n D code root root' start) e (record {
-  path = w.path;
-  climbed = rise_done w.rising z;
-  start_is = w.start_is ∙ rw (none, whole, all) refl;
-})
-  where
-    none : t ≡ 0
-    none = omega arith
-
-    whole : D - 0 ≡ D
-    whole = omega arith
-
-    all : greatest_depth d - 0 ≡ greatest_depth d
-    all = omega arith

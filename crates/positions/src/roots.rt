@@ -1,11 +1,13 @@
 // The roots of each dimension in dictionary order, one after the other: four entries each, the last ones 0, as digits of words.
-ghost use Rattle.std.specs.Prelude.{◌≡◌, [], ◌+◌, ◌*◌, ◌<◌, get_or};
+ghost use Rattle.std.specs.Prelude.{◌≡◌, [], ◌+◌, ◌≤◌, ◌<◌, get_or};
 ghost use Rattle.dimension.specs.Sizes.{axes_of, root_count};
 ghost use Rattle.bisection.specs.Roots.{roots};
-ghost use Rattle.positions.specs.RootTable.{first_row, root_digit};
+ghost use Rattle.positions.specs.RootTable.{first_row};
 
 use dimension::Dim;
 
+// Four bytes in a row were slower: a root's entries are then read as one word and carried as one from leaf to leaf (the sheet check took
+// 32.6 ns a leaf for 29.2).
 const ROOTS: [u64; 8] = [
     0x1200_2100_1230_1320,
     0x2130_2310_3120_3210,
@@ -17,9 +19,10 @@ const ROOTS: [u64; 8] = [
     0x4213_4231_4312_4321,
 ];
 
-// Where the roots of a dimension begin.
+// Where the roots of a dimension begin: they all stand in the table.
+#[tactic(auto, unfolding(dimension::specs::Sizes::root_count))]
 fn first_row(dim: Dim) -> usize
-    ensures { result ≡ first_row (axes_of dim) }
+    ensures { (result ≡ first_row (axes_of dim)) × (result + root_count (axes_of dim) ≤ 32) }
 {
     match dim {
         Dim::Two => 0,
@@ -28,20 +31,12 @@ fn first_row(dim: Dim) -> usize
     }
 }
 
-// The digit at a place of a row.
-fn digit(row: usize, place: usize) -> u8
-    requires { (row < 32) × (place < 4) }
-    ensures { result ≡ root_digit (4 * row + place) }
-{
-    let at = 4 * row + place;
-    let digit = (ROOTS[at / 16] >> (60 - 4 * (at % 16))) % 16;
-    digit as u8
-}
-
 // The entry at a place of root number n, 0 past the last.
+#[tactic(auto, using(crate::proofs::RootRows::row_is))]
 pub fn entry(dim: Dim, n: usize, place: usize) -> u8
     requires { (n < root_count (axes_of dim)) × (place < 4) }
     ensures { result ≡ get_or (get_or (roots (axes_of dim)) n []) place 0 }
 {
-    digit(first_row(dim) + n, place)
+    let at = 4 * (first_row(dim) + n) + place;
+    ((ROOTS[at / 16] >> (60 - 4 * (at % 16))) % 16) as u8
 }

@@ -59,102 +59,91 @@ pub record ChosenIs (mark : List ℕ) (width : ℕ) (sheet : List ℕ) (d : ℕ)
 
 -- ---- the leaf at the point, by its place on the line
 
-module _ {mark : List ℕ} {width : ℕ} {sheet : List ℕ} {d : ℕ} {point : List ℕ} (c : ChoiceReady mark width sheet d point) where
-  pub choice_known : is_dimension d ≡ true
-  choice_known = subst (λ (n : ℕ). is_dimension n ≡ true) c.axes c.good.has_dimension
+module _ {mark : List ℕ} {width : ℕ} {sheet : List ℕ} {d : ℕ} {point : List ℕ} (c : ChoiceReady mark width sheet d point) {way : Located} (located : LocatedIs d (point_of point) way) where
+  known : is_dimension d ≡ true
+  known = subst (λ (n : ℕ). is_dimension n ≡ true) c.axes c.good.has_dimension
 
   dims : length (point_of point) ≡ d
   dims = (point_in_cube d point c.passes).axes
 
-  module _ {a : ℕ} (is : a ≡ d) where
-    pub choice_point : is_point a point ≡ true
-    choice_point = rw is c.passes
+  leaves_in : Leaves (roots d) (greatest_depth d) c.good.cells
+  leaves_in = subst (λ (n : ℕ). Leaves (roots n) (greatest_depth n) c.good.cells) c.axes c.good.leaves
 
-    module _ {way : Located} (located : LocatedIs a (point_of point) way) where
-      located_in : LocatedIs d (point_of point) way
-      located_in = subst (λ (n : ℕ). LocatedIs n (point_of point) way) is located
+  pub choice_seek : SeekReady mark width sheet d 0 0 (record { stretches = way.root; part = way.position })
+  choice_seek = record {
+    count = c.count;
+    good = c.good;
+    axes = c.axes;
+    at = from_start c.good;
+    part_small = way_part located;
+    before_end = omega (arith, place_small known leaves_in dims located, sizes_none (greatest_depth d) c.good.cells);
+  }
 
-      leaves_in : Leaves (roots d) (greatest_depth d) c.good.cells
-      leaves_in = subst (λ (n : ℕ). Leaves (roots n) (greatest_depth n) c.good.cells) c.axes c.good.leaves
+  module _ {sought : Sought} (s : SoughtIs mark width sheet d 0 0 (record { stretches = way.root; part = way.position }) sought) where
+    abbrev leaf : TreeCell
+    leaf = leaf_in s.ready.good.cells sought.number
 
-      pub choice_seek : SeekReady mark width sheet d 0 0 (record { stretches = way.root; part = way.position })
-      choice_seek = record {
-        count = c.count;
-        good = c.good;
-        axes = c.axes;
-        at = from_start c.good;
-        part_small = way_part located_in;
-        before_end = omega (arith, place_small choice_known leaves_in dims located_in, sizes_none (greatest_depth d) c.good.cells);
-      }
+    leaves_of : Leaves (roots d) (greatest_depth d) s.ready.good.cells
+    leaves_of = subst (λ (n : ℕ). Leaves (roots n) (greatest_depth n) s.ready.good.cells) s.ready.axes s.ready.good.leaves
 
-      module _ {sought : Sought} (s : SoughtIs mark width sheet d 0 0 (record { stretches = way.root; part = way.position }) sought) where
-        abbrev leaf : TreeCell
-        leaf = leaf_in s.ready.good.cells sought.number
+    cell : GoodCell leaf × (length leaf.root ≡ s.ready.good.dimension)
+    cell = leaf_good s.ready.good sought.number s.holds.small
 
-        leaves_of : Leaves (roots d) (greatest_depth d) s.ready.good.cells
-        leaves_of = subst (λ (n : ℕ). Leaves (roots n) (greatest_depth n) s.ready.good.cells) s.ready.axes s.ready.good.leaves
+    axes_are : length leaf.root ≡ d
+    axes_are = cell.1 ∙ s.ready.axes
 
-        cell : GoodCell leaf × (length leaf.root ≡ s.ready.good.dimension)
-        cell = leaf_good s.ready.good sought.number s.holds.small
+    o : Found s.ready.good.cells (point_of point) (get_or (roots d) way.root []) located.way
+    o = found known leaves_of dims located
 
-        axes_of : length leaf.root ≡ d
-        axes_of = cell.1 ∙ s.ready.axes
+    none_before : sizes_to (greatest_depth d) s.ready.good.cells 0 ≡ 0
+    none_before = sizes_none (greatest_depth d) s.ready.good.cells
 
-        o : Found s.ready.good.cells (point_of point) (get_or (roots d) way.root []) located_in.way
-        o = found choice_known leaves_of dims located_in
+    number_is : o.number ≡ sought.number
+    unfolding o
+    number_is = leaf_by_sizes known leaves_of dims located sought.number s.holds.small
+        (omega (arith, s.holds.low, none_before)) (omega (arith, s.holds.high, none_before))
 
-        none_before : sizes_to (greatest_depth d) s.ready.good.cells 0 ≡ 0
-        none_before = sizes_none (greatest_depth d) s.ready.good.cells
+    root_is : get_or (roots d) way.root [] ≡ leaf.root
+    root_is = sym o.root_is ∙ ap (λ (n : ℕ). (leaf_in s.ready.good.cells n).root) number_is
 
-        number_is : o.number ≡ sought.number
-        unfolding o
-        number_is = leaf_by_sizes choice_known leaves_of dims located_in sought.number s.holds.small
-            (omega (arith, s.holds.low, none_before)) (omega (arith, s.holds.high, none_before))
+    way_is : located.way ≡ leaf.path ++ o.rest
+    way_is = o.way_is ∙ ap (λ (n : ℕ). (leaf_in s.ready.good.cells n).path ++ o.rest) number_is
 
-        root_is : get_or (roots d) way.root [] ≡ leaf.root
-        root_is = sym o.root_is ∙ ap (λ (n : ℕ). (leaf_in s.ready.good.cells n).root) number_is
+    in_root : length (point_of point) ≡ length leaf.root
+    in_root = dims ∙ sym axes_are
 
-        way_is : located_in.way ≡ leaf.path ++ o.rest
-        way_is = o.way_is ∙ ap (λ (n : ℕ). (leaf_in s.ready.good.cells n).path ++ o.rest) number_is
+    leaf_way : Way leaf.root leaf.path (point_of point)
+    leaf_way = way_front leaf.root cell.0.good_root in_root leaf.path o.rest
+        (rw axes_are (omega (arith, length-append leaf.path o.rest, ap length way_is, located.size)))
+        (subst (λ (w : List ℕ). Way leaf.root w (point_of point)) way_is
+        (subst (λ (r : List ℕ). Way r located.way (point_of point)) root_is located.goes))
 
-        in_root : length (point_of point) ≡ length leaf.root
-        in_root = dims ∙ sym axes_of
-
-        leaf_way : Way leaf.root leaf.path (point_of point)
-        leaf_way = way_front leaf.root cell.0.good_root in_root leaf.path o.rest
-            (rw axes_of (omega (arith, length-append leaf.path o.rest, ap length way_is, located_in.size)))
-            (subst (λ (w : List ℕ). Way leaf.root w (point_of point)) way_is
-            (subst (λ (r : List ℕ). Way r located_in.way (point_of point)) root_is located_in.goes))
-
-        pub choice_stands : StandsIs mark width sheet d (point_of point)
-            (record { number = sought.number; offset = sought.offset; depth = sought.depth; first = way.weights })
-        choice_stands = record {
-          count = s.ready.count;
-          good = s.ready.good;
-          axes = s.ready.axes;
-          leaf_at = subst (LeafAt s.ready.good.cells (point_of point)) number_is o.leaf_at;
-          depth_is = s.depth_is;
-          deep = rw (← axes_of) (omega (arith, s.depth_is, cell.0.good_path.depth));
-          stands = here s.ready.good s.holds.small s.at;
-          weights = subst (λ (r : List ℕ). CellWeights d r [] (point_of point) way.weights) root_is located_in.weights;
-          goes = leaf_way;
-        }
+    pub choice_stands : StandsIs mark width sheet d (point_of point)
+        (record { number = sought.number; offset = sought.offset; depth = sought.depth; first = way.weights })
+    choice_stands = record {
+      count = s.ready.count;
+      good = s.ready.good;
+      axes = s.ready.axes;
+      leaf_at = subst (LeafAt s.ready.good.cells (point_of point)) number_is o.leaf_at;
+      depth_is = s.depth_is;
+      deep = rw (← axes_are) (omega (arith, s.depth_is, cell.0.good_path.depth));
+      stands = here s.ready.good s.holds.small s.at;
+      weights = subst (λ (r : List ℕ). CellWeights d r [] (point_of point) way.weights) root_is located.weights;
+      goes = leaf_way;
+    }
 
 -- ---- from the leaf's root down to the leaf: so many steps on the way to the point end there, since the leaf is on it
 
-module _ {mark : List ℕ} {width : ℕ} {sheet : List ℕ} {d : ℕ} {p : Point} {r : Standing} (s : StandsIs mark width sheet d p r) {a : ℕ} (is : a ≡ d) where
+module _ {mark : List ℕ} {width : ℕ} {sheet : List ℕ} {d : ℕ} {p : Point} {r : Standing} (s : StandsIs mark width sheet d p r) where
   abbrev standing : TreeCell
   standing = leaf_in s.good.cells r.number
 
-  pub stands_begun : Begun a r.first
-  stands_begun = rw is (record { root = _; p = _; weights = s.weights })
+  pub stands_begun : Begun d r.first
+  stands_begun = record { root = _; p = _; weights = s.weights }
 
-  pub stands_deep : r.depth ≤ greatest_depth a
-  stands_deep = rw is s.deep
-
-  module _ {code : ℕ} (code_is : code ≡ code_length a r.depth) where
+  module _ {code : ℕ} (code_is : code ≡ code_length d r.depth) where
     head_is : length mark + code_length s.good.dimension (length standing.path) ≡ length mark + code
-    head_is = rw (code_is, is, s.axes, s.depth_is) refl
+    head_is = rw (code_is, s.axes, s.depth_is) refl
 
     pub stands_room : r.offset + (length mark + code) + width * suc d ≤ length sheet
     stands_room = omega (arith, s.stands.room, head_is, ap (λ (n : ℕ). width * suc n) s.axes)
@@ -162,9 +151,9 @@ module _ {mark : List ℕ} {width : ℕ} {sheet : List ℕ} {d : ℕ} {p : Point
     samples_in : take (width * suc d) (drop (r.offset + (length mark + code)) sheet) ≡ samples_of s.good.records r.number
     samples_in = rw (← head_is, ← s.axes) s.stands.samples_are
 
-    module _ {there : Place} (down : Descended a r.depth r.first there) where
+    module _ {there : Place} (down : Descended d r.depth r.first there) where
       reached : Reached d standing.root p r.depth there
-      reached = (subst (λ (n : ℕ). Descended n r.depth r.first there) is down).reaches s.weights
+      reached = down.reaches s.weights
 
       path_of : reached.way ≡ standing.path
       path_of = way_one standing.root s.weights.good s.weights.dims reached.goes s.goes

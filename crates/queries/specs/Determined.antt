@@ -1,13 +1,15 @@
 -- Two outcomes that the contract of the leaf query or of the value query allows are equal: a sheet is good in one way only, a point has one
 -- leaf there, and the leaf's weights, samples and value are one.
-use Rattle.std.specs.Prelude.{◌≡◌, refl, List, [], ◌∷◌, ◌++◌, ℕ, zero, suc, ◌*◌, ◌<◌, T, length, take, drop}
+use Rattle.std.specs.Prelude.{◌≡◌, refl, List, [], ◌∷◌, ◌++◌, ℕ, zero, suc, ◌*◌, ◌<◌, T, length, take, drop, Float, Result, Ok, Err}
 use Rattle.std.proofs.Common.{sym, ap, ◌∙◌, subst, arith, take_at, drop_at}
 use Rattle.std.proofs.Math.Decide.{dec_lt}
 use Rattle.dimension.specs.Sizes.{box_side}
 use Rattle.dimension.specs.Laws.{side_of}
 use Rattle.bisection.specs.Cells.{Point, point_bytes}
 use Rattle.bisection.specs.Codes.{code_of}
-use Rattle.bisection.specs.Refusals.{done}
+use Rattle.bisection.specs.declared.Refused.{Refused}
+use Rattle.bisection.specs.Refusals.{done, refused_point}
+use Rattle.bisection.specs.NumberLaws.{one_refusal}
 use Rattle.bisection.proofs.Theorems.CodePaths.{some_axes}
 use Rattle.bisection.proofs.Theorems.Ladders.{held_at}
 use Rattle.sheets.specs.Forests.{TreeCell}
@@ -23,10 +25,8 @@ use Rattle.greys.specs.Samples.{grey_sum}
 use Rattle.greys.specs.Exact.{fraction_one}
 use Rattle.greys.specs.Values.{flat_of}
 use Rattle.greys.specs.declared.ValueAnswer.{ValueAnswer}
-use Rattle.greys.specs.declared.Value.{Value}
-use Rattle.greys.specs.declared.Value.TheVariants.{Grey}
 use Rattle.queries.specs.declared.LeafAnswer.{LeafAnswer}
-use Rattle.queries.specs.Queries.{side_in, LeafAt, LeafWeights, weights_length, leaf_refusal, leaf_told, LeafOn, leaf_refused, leaf_found, LeafIs, ValueOn, value_refused, value_found, ValueIs, FlatValueIs}
+use Rattle.queries.specs.Queries.{side_in, LeafAt, LeafWeights, weights_length, leaf_refusal, leaf_told, LeafOn, leaf_refused, leaf_found, LeafIs, Tells, RefusedAt, ValueOn, value_refused, value_found, ValueIs, FlatValueIs}
 use Rattle.finding.specs.Walk.{leaf_good}
 
 -- there is one leaf at a point
@@ -117,15 +117,24 @@ leaf_determined {sheet} {point} {before} {after} {after'} {r} {s} q t = query_on
         in_cube : length (point_of point) ≡ g.dimension
         in_cube = (point_in_cube g.dimension point (unfold leaf_refusal in held_at _ tt k 0)).axes
 
+-- one refusal of a number and an offset
+tells_one : (r s : Refused) {number offset : ℕ} → Tells r number offset → Tells s number offset → r ≡ s
+tells_one r s e f = λ i. record { refusal = one_refusal r.refusal s.refusal (e.0 ∙ sym f.0) i; offset = (e.1 ∙ sym f.1) i }
+
+pub refused_one : {A : Type 0} (v u : Result A Refused) (number offset : ℕ) → RefusedAt v number offset → RefusedAt u number offset → v ≡ u
+refused_one (Ok x) u number offset e f = absurd e
+refused_one (Err r) (Ok y) number offset e f = absurd f
+refused_one (Err r) (Err s) number offset e f = ap Err (tells_one r s e f)
+
 -- one f64 only, +0.0 for zero
-pub value_determined : {sheet point : List ℕ} {v u : Value} → ValueIs sheet point v → ValueIs sheet point u → v ≡ u
-value_determined {sheet} {point} {v} {u} q t = query_one q t (λ number offset x y. x ∙ sym y) on
+pub value_determined : {sheet point : List ℕ} {v u : Result Float Refused} → ValueIs sheet point v → ValueIs sheet point u → v ≡ u
+value_determined {sheet} {point} {v} {u} q t = query_one q t (refused_one v u) on
   where
     on : (n m : ℕ) (g : Good sheet n) (h : Good sheet m) → ValueOn g point v → ValueOn h point u → v ≡ u
-    on n m g h (value_refused k e) (value_refused l f) = e ∙ sym f
+    on n m g h (value_refused k e) (value_refused l f) = refused_one v u refused_point 0 e f
     on n m g h (value_refused k e) (value_found l x y z f) = absurd (subst T (sym (ap (λ (d : ℕ). is_point d point) (same_axes g h)) ∙ k) (subst T (sym l) tt))
     on n m g h (value_found k a w z e) (value_refused l f) = absurd (subst T (ap (λ (d : ℕ). is_point d point) (same_axes g h) ∙ l) (subst T (sym k) tt))
-    on n m g h (value_found {i = i} {ws = ws} {x = x} k a w z e) (value_found {i = j} {ws = us} {x = y} l b w' z' f) = e ∙ ap Grey (fraction_one (side_some g h a b) z there) ∙ sym f
+    on n m g h (value_found {i = i} {ws = ws} {x = x} k a w z e) (value_found {i = j} {ws = us} {x = y} l b w' z' f) = e ∙ ap Ok (fraction_one (side_some g h a b) z there) ∙ sym f
       where
         in_cube : length (point_of point) ≡ g.dimension
         in_cube = (point_in_cube g.dimension point k).axes

@@ -1,8 +1,10 @@
--- Point queries. A reader must believe Queries and SlopeQueries; the rest is checked.
+-- Point queries. A reader must believe Queries, SlopeQueries and Forms; the rest is checked.
 -- The leaf at a point, and what the leaf query and the value query answer.
 pub mod Queries
 -- What the slope query answers.
 pub mod SlopeQueries
+-- The leaf query's answer for a C program.
+pub mod Forms
 -- What is proved of the definitions.
 pub mod Theorems
 -- Two outcomes that a contract allows are equal: of the leaf query, of the value query,

@@ -1,26 +1,25 @@
 -- The answer of the slope query, put together: the check of the sheet, the leaf's code and samples, its slopes.
-use Rattle.std.specs.Prelude.{◌≡◌, refl, Bool, true, not, List, ℕ, suc, ◌+◌, ◌*◌, ◌≤◌, length, take, drop}
+use Rattle.std.specs.Prelude.{◌≡◌, refl, true, List, ℕ, suc, ◌+◌, ◌*◌, ◌≤◌, length, take, drop, Ok, Err}
 use Rattle.std.proofs.Common.{sym, ap, ◌∙◌, subst, arith}
-use Rattle.std.proofs.lemmas.Bool.{not-true}
 use Rattle.dimension.specs.Sizes.{code_length}
-use Rattle.bisection.specs.Codes.{code_of, IsCodeOf}
+use Rattle.bisection.specs.declared.Refused.{Refused}
+use Rattle.bisection.specs.Codes.{code_of, IsCodeOf, dimension_of}
+use Rattle.bisection.specs.Refusals.{done, code_refusal}
+use Rattle.bisection.proofs.Theorems.CodePaths.{code_passes, length_root}
 use Rattle.sheets.specs.Forests.{TreeCell}
-use Rattle.sheets.specs.Sheets.{samples_of, GoodSheet, leaf_in, sheet_mark, sample_width, sheet_good}
+use Rattle.sheets.specs.Sheets.{samples_of, GoodSheet, leaf_in, sheet_mark, sample_width, sheet_refused, sheet_good}
 use Rattle.sheets.specs.declared.Edition.{Edition}
-use Rattle.sheets.specs.Steps.{mark_of, IsFirst}
+use Rattle.sheets.specs.Steps.{mark_of}
 use Rattle.sheets.specs.Theorems.Listing.{GoodCell, code_of_cell}
 use Rattle.points.specs.Points.{point_of, is_point}
-use Rattle.slopes.specs.Gathering.{SlopesReady, SlopesOf, CellSlopes}
+use Rattle.slopes.specs.Gathering.{SlopesOf, CellSlopes}
 use Rattle.slopes.specs.declared.Slopes.{Slopes}
-use Rattle.slopes.specs.declared.Slope.TheVariants.{Along, Refused}
-use Rattle.finding.specs.declared.opened.Opened.{Opened}
-use Rattle.finding.specs.Opened.{OpenedIs}
 use Rattle.finding.specs.Walk.{leaf_good}
 use Rattle.queries.specs.declared.Standing.{Standing}
 use Rattle.queries.specs.Queries.{LeafAt}
 use Rattle.queries.specs.SlopeQueries.{slope_refused, slope_found, SlopeIs}
 use Rattle.queries.specs.Choice.{ChoiceReady, StandsIs, stands_room}
-use Rattle.queries.specs.Answers.{slice, slice_at, slice_length, query_shut, it, point_is, ready_first}
+use Rattle.queries.specs.Answers.{slice, slice_at, slice_length, FirstReady, NotAsked}
 
 -- the slopes in the leaf at a point of a good sheet
 pub record SlopesAt (mark : List ℕ) (width : ℕ) (sheet : List ℕ) (d : ℕ) (point : List ℕ) (x : Slopes) : Type 0 where
@@ -32,54 +31,52 @@ pub record SlopesAt (mark : List ℕ) (width : ℕ) (sheet : List ℕ) (d : ℕ)
   pub leaf_at : LeafAt good.cells (point_of point) number
   pub slopes : CellSlopes (leaf_in good.cells number).root (leaf_in good.cells number).path width (samples_of good.records number) x
 
-module _ {e : Edition} {sheet : List ℕ} {d : ℕ} {point : List ℕ} {r : Standing} (ready : ChoiceReady (mark_of e) e.width sheet d point × (e.width ≤ 3))
-    (s : StandsIs (mark_of e) e.width sheet d (point_of point) r) where
+module _ {mark : List ℕ} {width : ℕ} {sheet : List ℕ} {d : ℕ} {point : List ℕ} {r : Standing} (ready : ChoiceReady mark width sheet d point × (width ≤ 3))
+    (s : StandsIs mark width sheet d (point_of point) r) where
   abbrev leaf : TreeCell
   leaf = leaf_in s.good.cells r.number
 
   cell : GoodCell leaf × (length leaf.root ≡ s.good.dimension)
   cell = leaf_good s.good r.number s.leaf_at.number
 
-  pub code_end : {a n : ℕ} → a ≡ d → n ≡ code_length a r.depth → r.offset + length (mark_of e) + n ≤ length sheet
-  code_end is code_is = omega (arith, stands_room s is code_is)
+  pub code_end : {n : ℕ} → n ≡ code_length d r.depth → r.offset + length mark + n ≤ length sheet
+  code_end code_is = omega (arith, stands_room s code_is)
 
   -- n is the code's length and m that of the samples
-  module _ {a n m : ℕ} (is : a ≡ d) (code_is : n ≡ code_length a r.depth) (samples_are : (m ≡ e.width * suc d) × (m ≤ 65536)) where
+  module _ {n m : ℕ} (code_is : n ≡ code_length d r.depth) (samples_are : (m ≡ width * suc d) × (m ≤ 65536)) where
     length_is : n ≡ code_length s.good.dimension (length leaf.path)
-    length_is = code_is ∙ rw (is, s.axes, s.depth_is) refl
+    length_is = code_is ∙ rw (s.axes, s.depth_is) refl
 
-    size_is : m ≡ e.width * suc s.good.dimension
+    size_is : m ≡ width * suc s.good.dimension
     size_is = samples_are.0 ∙ rw s.axes refl
 
-    pub slopes_end : r.offset + length (mark_of e) + n + m ≤ length sheet
+    pub slopes_end : r.offset + length mark + n + m ≤ length sheet
     slopes_end = omega (arith, s.stands.room, length_is, size_is)
 
-    code_in : slice sheet (r.offset + length (mark_of e)) n ≡ code_of leaf.root leaf.path
-    code_in = slice_at sheet (r.offset + length (mark_of e)) n ∙ ap (λ (k : ℕ). take k (drop (r.offset + length (mark_of e)) sheet)) length_is ∙ s.stands.code_is
+    code_in : slice sheet (r.offset + length mark) n ≡ code_of leaf.root leaf.path
+    code_in = slice_at sheet (r.offset + length mark) n ∙ ap (λ (k : ℕ). take k (drop (r.offset + length mark) sheet)) length_is ∙ s.stands.code_is
 
-    behind : r.offset + length (mark_of e) + n ≡ r.offset + (length (mark_of e) + code_length s.good.dimension (length leaf.path))
+    behind : r.offset + length mark + n ≡ r.offset + (length mark + code_length s.good.dimension (length leaf.path))
     behind = omega (arith, length_is)
 
-    samples_in : slice sheet (r.offset + length (mark_of e) + n) m ≡ samples_of s.good.records r.number
-    samples_in = slice_at sheet (r.offset + length (mark_of e) + n) m ∙ ap (λ (k : ℕ). take m (drop k sheet)) behind
-        ∙ ap (λ (k : ℕ). take k (drop (r.offset + (length (mark_of e) + code_length s.good.dimension (length leaf.path))) sheet)) size_is ∙ s.stands.samples_are
+    samples_in : slice sheet (r.offset + length mark + n) m ≡ samples_of s.good.records r.number
+    samples_in = slice_at sheet (r.offset + length mark + n) m ∙ ap (λ (k : ℕ). take m (drop k sheet)) behind
+        ∙ ap (λ (k : ℕ). take k (drop (r.offset + (length mark + code_length s.good.dimension (length leaf.path))) sheet)) size_is ∙ s.stands.samples_are
 
-    is_code : IsCodeOf (slice sheet (r.offset + length (mark_of e)) n) leaf.root leaf.path
+    is_code : IsCodeOf (slice sheet (r.offset + length mark) n) leaf.root leaf.path
     is_code = subst (λ (l : List ℕ). IsCodeOf l leaf.root leaf.path) (sym code_in) (code_of_cell cell.0)
 
-    samples_room : length (slice sheet (r.offset + length (mark_of e) + n) m) ≡ m
-    samples_room = slice_length sheet (r.offset + length (mark_of e) + n) m slopes_end
+    samples_room : length (slice sheet (r.offset + length mark + n) m) ≡ m
+    samples_room = slice_length sheet (r.offset + length mark + n) m slopes_end
 
-    pub slopes_ready : SlopesReady (slice sheet (r.offset + length (mark_of e)) n) e.width (slice sheet (r.offset + length (mark_of e) + n) m)
-    slopes_ready = record {
-      root = leaf.root;
-      path = leaf.path;
-      of = is_code;
-      room = omega (arith, samples_room, size_is, ap (λ (k : ℕ). e.width * suc k) cell.1);
-      narrow = ready.1;
-    }
+    pub slopes_code : code_refusal (slice sheet (r.offset + length mark) n) ≡ done
+    slopes_code = rw is_code.is (code_passes leaf.root leaf.path is_code.good_root is_code.good_path)
 
-    pub slopes_are : {x : Slopes} → SlopesOf (slice sheet (r.offset + length (mark_of e)) n) e.width (slice sheet (r.offset + length (mark_of e) + n) m) x → SlopesAt (mark_of e) e.width sheet d point x
+    pub slopes_ready : {code : List ℕ} → code ≡ slice sheet (r.offset + length mark) n
+        → (width * suc (dimension_of code) ≤ length (slice sheet (r.offset + length mark + n) m)) × (width ≤ 3)
+    slopes_ready {code} same = (omega (arith, samples_room, size_is, ap (λ (k : ℕ). width * suc k) (ap dimension_of same ∙ sym (length_root is_code) ∙ cell.1)), ready.1)
+
+    pub slopes_are : {x : Slopes} → SlopesOf (slice sheet (r.offset + length mark) n) width (slice sheet (r.offset + length mark + n) m) x → SlopesAt mark width sheet d point x
     slopes_are {x} o = record {
       count = s.count;
       good = s.good;
@@ -87,28 +84,23 @@ module _ {e : Edition} {sheet : List ℕ} {d : ℕ} {point : List ℕ} {r : Stan
       passes = ready.0.passes;
       number = r.number;
       leaf_at = s.leaf_at;
-      slopes = subst (λ (l : List ℕ). CellSlopes leaf.root leaf.path e.width l x) samples_in (o.of leaf.root leaf.path is_code);
+      slopes = subst (λ (l : List ℕ). CellSlopes leaf.root leaf.path width l x) samples_in (o.of leaf.root leaf.path is_code);
     }
 
--- ---- a checked sheet
+-- ---- the front of a query
 
-module _ {sheet : List ℕ} {o : Opened} (s : OpenedIs sheet o) where
-  pub slope_shut : {point : List ℕ} → (o.refusal ≡ 0 → ⊥) → SlopeIs sheet point (Refused o.refusal o.offset)
-  slope_shut k = query_shut s (λ number offset. Refused o.refusal o.offset ≡ Refused number offset) k refl
-
-  pub slope_no_point : (h : o.refusal ≡ 0) {a : ℕ} → a ≡ o.dimension → {point : List ℕ} {b : Bool} → b ≡ is_point a point → not b ≡ true
-      → SlopeIs sheet point (Refused 12 0)
-  slope_no_point h is {point} test e = sheet_good (it s h).good_sheet (slope_refused (point_is s h is point ∙ sym test ∙ not-true _ e) refl)
+pub slope_not : {sheet point : List ℕ} {r : Refused} → NotAsked sheet point r → SlopeIs sheet point (Err r)
+slope_not (sheet_refused s k t) = sheet_refused s k t
+slope_not (sheet_good g t) = sheet_good g (slope_refused t.0 t.1)
 
 -- ---- the edition of document 01
 
-pub slopes_first : {e : Edition} {sheet point : List ℕ} {d : ℕ} → IsFirst e → ChoiceReady sheet_mark sample_width sheet d point
-    → ChoiceReady (mark_of e) e.width sheet d point × (e.width ≤ 3)
-slopes_first f r = (ready_first f r, omega (arith, f.width_is))
+pub slopes_first : {e : Edition} {sheet point : List ℕ} {d : ℕ} → FirstReady e sheet d point → ChoiceReady (mark_of e) e.width sheet d point × (e.width ≤ 3)
+slopes_first r = (r.ready, omega (arith, r.first.width_is))
 
-pub slope_done : {e : Edition} {sheet point : List ℕ} {d : ℕ} {x : Slopes} → IsFirst e → SlopesAt (mark_of e) e.width sheet d point x → SlopeIs sheet point (Along x)
-slope_done {e} {sheet} {point} {d} {x} f c = go (subst (λ (w : ℕ). SlopesAt sheet_mark w sheet d point x) f.width_is
-    (subst (λ (m : List ℕ). SlopesAt m e.width sheet d point x) f.mark_is c))
+pub slope_done : {e : Edition} {bytes sheet point : List ℕ} {d : ℕ} {x : Slopes} → FirstReady e sheet d point → bytes ≡ sheet → SlopesAt (mark_of e) e.width bytes d point x → SlopeIs sheet point (Ok x)
+slope_done {e} {bytes} {sheet} {point} {d} {x} r same c = go (subst (λ (s : List ℕ). SlopesAt sheet_mark sample_width s d point x) same (subst (λ (w : ℕ). SlopesAt sheet_mark w bytes d point x) r.first.width_is
+    (subst (λ (m : List ℕ). SlopesAt m e.width bytes d point x) r.first.mark_is c)))
   where
-    go : SlopesAt sheet_mark sample_width sheet d point x → SlopeIs sheet point (Along x)
+    go : SlopesAt sheet_mark sample_width sheet d point x → SlopeIs sheet point (Ok x)
     go c = sheet_good c.good (slope_found (rw c.axes c.passes) c.leaf_at c.slopes.linear c.slopes.components refl)

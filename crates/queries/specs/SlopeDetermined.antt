@@ -1,7 +1,9 @@
 -- Two outcomes that the contract of the slope query allows are equal: the leaf is one, its slope is, and each component is one f64.
-use Rattle.std.specs.Prelude.{◌≡◌, List, ℕ, T, ℤ, length}
+use Rattle.std.specs.Prelude.{◌≡◌, List, ℕ, T, ℤ, length, Result, Ok}
 use Rattle.std.proofs.Common.{sym, ap, ◌∙◌, subst}
 use Rattle.dimension.specs.Sizes.{box_side}
+use Rattle.bisection.specs.declared.Refused.{Refused}
+use Rattle.bisection.specs.Refusals.{refused_point}
 use Rattle.bisection.specs.Slopes.{Linear}
 use Rattle.bisection.specs.Cells.{Point, cell_of}
 use Rattle.bisection.specs.Theorems.Slopes.One.{OneSlope}
@@ -14,12 +16,11 @@ use Rattle.points.specs.Points.{is_point}
 use Rattle.greys.specs.Samples.{sample_at}
 use Rattle.slopes.specs.Slopes.{Components, flat_of}
 use Rattle.slopes.specs.Determined.{components_one}
-use Rattle.slopes.specs.declared.Slope.{Slope}
-use Rattle.slopes.specs.declared.Slope.TheVariants.{Along}
+use Rattle.slopes.specs.declared.Slopes.{Slopes}
 use Rattle.slopes.specs.declared.SlopeAnswer.{SlopeAnswer}
 use Rattle.queries.specs.Queries.{cell_in, side_in, LeafAt}
 use Rattle.queries.specs.SlopeQueries.{SlopeOn, slope_refused, slope_found, SlopeIs, FlatSlopeIs}
-use Rattle.queries.specs.Determined.{same_leaf, good_leaf, same_samples, same_side, side_some}
+use Rattle.queries.specs.Determined.{same_leaf, good_leaf, same_samples, same_side, side_some, refused_one}
 
 -- the numbers of the leaf's slope are one list
 module _ {sheet : List ℕ} {n m : ℕ} (g : Good sheet n) (h : Good sheet m) {p : Point} {i j : ℕ} (a : LeafAt g.cells p i) (b : LeafAt h.cells p j) where
@@ -35,14 +36,14 @@ module _ {sheet : List ℕ} {n m : ℕ} (g : Good sheet n) (h : Good sheet m) {p
       one = one_slope (leaf_in g.cells i).root (leaf_in g.cells i).path (good_leaf g h a b).0.good_root (good_leaf g h a b).0.good_path.depth
           (sample_at sample_width (samples_of g.records i))
 
-pub slope_determined : {sheet point : List ℕ} {v u : Slope} → SlopeIs sheet point v → SlopeIs sheet point u → v ≡ u
-slope_determined {sheet} {point} {v} {u} q t = query_one q t (λ number offset x y. x ∙ sym y) on
+pub slope_determined : {sheet point : List ℕ} {v u : Result Slopes Refused} → SlopeIs sheet point v → SlopeIs sheet point u → v ≡ u
+slope_determined {sheet} {point} {v} {u} q t = query_one q t (refused_one v u) on
   where
     on : (n m : ℕ) (g : Good sheet n) (h : Good sheet m) → SlopeOn g point v → SlopeOn h point u → v ≡ u
-    on n m g h (slope_refused k e) (slope_refused l f) = e ∙ sym f
+    on n m g h (slope_refused k e) (slope_refused l f) = refused_one v u refused_point 0 e f
     on n m g h (slope_refused k e) (slope_found l b y z f) = absurd (subst T (sym (ap (λ (d : ℕ). is_point d point) (same_axes g h)) ∙ k) (subst T (sym l) tt))
     on n m g h (slope_found k a x z e) (slope_refused l f) = absurd (subst T (ap (λ (d : ℕ). is_point d point) (same_axes g h) ∙ l) (subst T (sym k) tt))
-    on n m g h (slope_found {i = i} {ns = ns} k a w c e) (slope_found {ns = us} {x = y} l b w' c' f) = e ∙ ap Along (components_one (side_some g h a b) c there) ∙ sym f
+    on n m g h (slope_found {i = i} {ns = ns} k a w c e) (slope_found {ns = us} {x = y} l b w' c' f) = e ∙ ap Ok (components_one (side_some g h a b) c there) ∙ sym f
       where
         there : Components (side_in g.cells i) ns y
         there = subst (λ (l : List ℤ). Components (side_in g.cells i) l y) (sym (same_numbers g h a b w w')) (subst (λ (s : ℕ). Components s us y) (sym (same_side g h a b)) c')

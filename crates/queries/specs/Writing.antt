@@ -1,11 +1,14 @@
 -- The weights as they are written: those of the cube's side, halved as often as the box was, two bytes each.
-use Rattle.std.specs.Prelude.{◌≡◌, List, [], ◌∷◌, ◌++◌, map, ℕ, suc, ◌+◌, ◌*◌, ◌/◌, ◌%◌, ◌^◌, ◌≤◌, ◌<◌, length, take, drop}
+use Rattle.std.specs.Prelude.{◌≡◌, List, [], ◌∷◌, ◌++◌, map, ℕ, suc, ◌+◌, ◌-◌, ◌*◌, ◌/◌, ◌%◌, ◌^◌, ◌≤◌, ◌<◌, length, take, drop}
 use Rattle.std.proofs.Math.Path.{refl, ap, subst}
 use Rattle.std.proofs.Common.{◌∙◌, arith, div-le_self, drop_of_length-le, drop-cons, get_or-take}
 use Rattle.std.proofs.Math.Nat.{zero-div}
+use Rattle.std.proofs.lemmas.Slice.{put_mid-paste}
+use Rattle.std.specs.Int.{w16, byte_at, to_le_bytes}
+use borrow.Rule.Slice.PartMut.{put_mid}
 use Rattle.std.proofs.Math.ListN.{get_or, length-map, get_or-map}
 use Rattle.std.proofs.Math.Seq.{length-take-le}
-use Rattle.common.specs.Putting.{put, Puts, Putting, putting_start, putting_next, putting_end}
+use Rattle.common.specs.Putting.{put, Puts, put_copy, Putting, putting_start, putting_next, putting_end}
 use Rattle.bisection.specs.Cells.{point_bytes}
 use Rattle.bisection.proofs.Theorems.Lists.{point_size}
 
@@ -43,47 +46,48 @@ module _ {d boxes : ℕ} {w out : List ℕ} (r : WeightsReady d boxes w out) whe
   unfolding weight_bytes
   weights_length_is = point_size (halved d boxes w) ∙ ap (λ (n : ℕ). 2 * n) halved_length
 
-  pub writing_start : {a : ℕ} → a ≡ d → Writing a boxes w out 0 out
+  pub writing_start : Writing d boxes w out 0 out
   unfolding weight_bytes
-  writing_start e = rw e (record { ready = r; inside = omega arith; putting = putting_start 0 (point_bytes (halved d boxes w)) out (omega (arith, weights_length_is, r.room)) })
+  writing_start = record { ready = r; inside = omega arith; putting = putting_start 0 (point_bytes (halved d boxes w)) out (omega (arith, weights_length_is, r.room)) }
+
+-- a number's two bytes
+two_bytes : (x : ℕ) → x < 2 ^ 16 → to_le_bytes w16 x ≡ x % 256 ∷ x / 256 ∷ []
+two_bytes x l = let low : byte_at 0 x ≡ x % 256 = omega arith in let high : byte_at 1 x ≡ x / 256 = omega arith in λ i. low i ∷ high i ∷ []
 
 module _ {d boxes : ℕ} {w out₀ : List ℕ} {n : ℕ} {out : List ℕ} (s : Writing d boxes w out₀ n out) where
-  pub writing_same : length out ≡ length out₀
-  writing_same = s.putting.size
-
   module _ (l : n ≤ d) where
-    pub writing_room : 2 * n + 2 ≤ length out
-    writing_room = omega (arith, writing_same, s.ready.room)
-
-    pub writing_few : boxes < 64
-    writing_few = s.ready.few
-
-    pub writing_index : n < length w
-    writing_index = omega (arith, s.ready.five, s.ready.axes)
-
     pub writing_small : get_or w n 0 / 2 ^ boxes < 2 ^ 16
     writing_small = omega (arith, div-le_self (get_or w n 0) (2 ^ boxes), s.ready.small n l)
 
-    next_bytes : point_bytes (drop n (halved d boxes w)) ≡ (get_or w n 0 / 2 ^ boxes % 256 ∷ get_or w n 0 / 2 ^ boxes / 256 ∷ []) ++ point_bytes (drop (suc n) (halved d boxes w))
+    abbrev two : List ℕ
+    two = get_or w n 0 / 2 ^ boxes % 256 ∷ get_or w n 0 / 2 ^ boxes / 256 ∷ []
+
+    next_bytes : point_bytes (drop n (halved d boxes w)) ≡ two ++ point_bytes (drop (suc n) (halved d boxes w))
     unfolding point_bytes
     next_bytes = ap point_bytes (drop-cons (halved d boxes w) n 0 (omega (arith, halved_length s.ready))) ∙ ap (λ (x : ℕ). x % 256 ∷ x / 256 ∷ point_bytes (drop (suc n) (halved d boxes w))) (halved_at s.ready n l)
 
-    pub writing_next : {r : ℕ} {out' : List ℕ} → Puts (2 * n) (get_or w n 0 / 2 ^ boxes % 256 ∷ get_or w n 0 / 2 ^ boxes / 256 ∷ []) out r out' → Writing d boxes w out₀ (n + 1) out'
-    writing_next {r} {out'} p = record {
+    puts : {bytes : List ℕ} → bytes ≡ to_le_bytes w16 (get_or w n 0 / 2 ^ boxes) → Puts (2 * n) two out (2 * n + 2) (put_mid (2 * n) (2 * n + 2 - 2 * n) out bytes)
+    puts {bytes} e = record {
+      next = refl;
+      is = put_mid-paste (2 * n) (2 * n + 2 - 2 * n) out bytes two 2 (e ∙ two_bytes _ writing_small) (omega arith) refl ∙ put_copy (2 * n) 2 two out refl;
+    }
+
+    pub writing_next : {bytes : List ℕ} → bytes ≡ to_le_bytes w16 (get_or w n 0 / 2 ^ boxes) → Writing d boxes w out₀ (n + 1) (put_mid (2 * n) (2 * n + 2 - 2 * n) out bytes)
+    writing_next {bytes} e = record {
       ready = s.ready;
       inside = omega arith;
-      putting = subst (λ (k : ℕ). Putting 0 (weight_bytes d boxes w) out₀ k (point_bytes (drop (n + 1) (halved d boxes w))) out') at
-          (subst (λ (m : ℕ). Putting 0 (weight_bytes d boxes w) out₀ r (point_bytes (drop m (halved d boxes w))) out') (one n) (putting_next s.putting _ (point_bytes (drop (suc n) (halved d boxes w))) next_bytes p));
+      putting = subst (λ (k : ℕ). Putting 0 (weight_bytes d boxes w) out₀ k (point_bytes (drop (n + 1) (halved d boxes w))) (put_mid (2 * n) (2 * n + 2 - 2 * n) out bytes)) at
+          (subst (λ (m : ℕ). Putting 0 (weight_bytes d boxes w) out₀ (2 * n + 2) (point_bytes (drop m (halved d boxes w))) (put_mid (2 * n) (2 * n + 2 - 2 * n) out bytes)) (one n) (putting_next s.putting two (point_bytes (drop (suc n) (halved d boxes w))) next_bytes (puts e)));
     }
       where
         one : (n : ℕ) → suc n ≡ n + 1
         one n = omega arith
 
-        at : r ≡ 2 * (n + 1)
-        at = p.next ∙ omega arith
+        at : 2 * n + 2 ≡ 2 * (n + 1)
+        at = omega arith
 
-  pub writing_end : {e : ℕ} → suc d ≤ n → d ≡ e → out ≡ put 0 (weight_bytes e boxes w) out₀
-  writing_end l e = subst (λ (k : ℕ). out ≡ put 0 (weight_bytes k boxes w) out₀) e (putting_end s.putting none_left).is
+  pub writing_end : d < n → out ≡ put 0 (weight_bytes d boxes w) out₀
+  writing_end l = (putting_end s.putting none_left).is
     where
       none_left : point_bytes (drop n (halved d boxes w)) ≡ []
       none_left = ap point_bytes (drop_of_length-le (halved d boxes w) {i = n} (omega (arith, halved_length s.ready))) ∙ unfold point_bytes in refl

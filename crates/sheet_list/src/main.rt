@@ -12,11 +12,11 @@ fn read_full(input: &mut Stdin, bytes: &mut [u8]) -> usize
     ensures { result ≤ length bytes.new }
 {
     let mut done: usize = 0;
+    // a `while`: a read may give fewer bytes than there is room for, and `read_exact` does not say how many there were
     while done < bytes.len() {
         match input.read(&mut bytes[done..]) {
-            Ok(0) => break,
+            Ok(0) | Err(_) => break,
             Ok(n) => done += n,
-            Err(_) => break,
         }
     }
     done

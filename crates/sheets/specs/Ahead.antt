@@ -1,17 +1,15 @@
 -- The frontier behind a list of leaves, as the sheet check keeps it: the number of a root, and the next cell in it.
-use Rattle.std.specs.Prelude.{◌≡◌, refl, Bool, true, false, length, get_or, drop}
+use Rattle.std.specs.Prelude.{◌≡◌, refl, Bool, true, Some, None, length, get_or, drop}
 use Rattle.std.proofs.Common.{sym, ◌∙◌, length-drop}
 use Rattle.std.proofs.Math.Path.{ap, subst}
 use mathlib.Core.List.{List, [], ◌∷◌, ◌++◌}
 use Prim.Native.Nat.{ℕ, suc, ◌+◌, ◌≤◌, ◌<◌}
 use native.Mathlib.Omega.{arith}
-use Rattle.std.proofs.Math.Dec.{T}
 use Rattle.std.proofs.Math.Seq.{drop-cons}
 use Rattle.bisection.specs.Roots.{roots}
 use Rattle.next.specs.declared.Next.{Next}
-use Rattle.next.specs.declared.Onward.{Onward}
 use Rattle.next.specs.Paths.{steps, zeros}
-use Rattle.next.specs.Nexts.{Stands, Gone, on, over, FirstIs}
+use Rattle.next.specs.Nexts.{Stands, Gone, FirstIs}
 use Rattle.sheets.specs.Forests.{TreeCell, tree_cell}
 use Rattle.sheets.specs.Theorems.Frontier.{advance, advance_on, advance_over, Follows, end, leaf, follows_one}
 use Rattle.sheets.specs.Theorems.Frontier.{follows_split, follows_join}
@@ -50,24 +48,22 @@ module _ {d : ℕ} {cells : List TreeCell} {root : ℕ} {cell : Next} (w : Ahead
     more_cells : CellsIn d (cells ++ c ∷ [])
     more_cells = cells_join w.cells_in (cells_more g ax cells_none)
 
-    pub ahead_on : {x : Onward} → x.more ≡ true → Gone d here (zeros n w.path) x → Ahead d (cells ++ c ∷ []) root x.next
-    ahead_on m (over e f) = absurd (subst T (sym m ∙ f) tt)
-    ahead_on m (on p e f st) = record {
+    pub ahead_on : {next : Next} → Gone d here (zeros n w.path) (Some next) → Ahead d (cells ++ c ∷ []) root next
+    ahead_on on = record {
       cells_in = more_cells;
-      path = true ∷ p;
-      follows = subst (Follows (frontier.state (roots d) []) (cells ++ c ∷ [])) (advance_on here rest (zeros n w.path) p e
-          ∙ ap (λ (rs : List (List ℕ)). frontier.state rs (true ∷ p)) (sym roots_here)) joined;
+      path = true ∷ on.path;
+      follows = subst (Follows (frontier.state (roots d) []) (cells ++ c ∷ [])) (advance_on here rest (zeros n w.path) on.path on.last
+          ∙ ap (λ (rs : List (List ℕ)). frontier.state rs (true ∷ on.path)) (sym roots_here)) joined;
       root_in = w.root_in;
-      stands = λ l. st;
+      stands = λ l. on.stands;
     }
 
-    pub ahead_over : {x : Onward} {y : Next} → x.more ≡ false → Gone d here (zeros n w.path) x → FirstIs d (root + 1) y → Ahead d (cells ++ c ∷ []) (root + 1) y
+    pub ahead_over : {next : Next} → Gone d here (zeros n w.path) None → FirstIs d (root + 1) next → Ahead d (cells ++ c ∷ []) (root + 1) next
     unfolding rest
-    ahead_over m (on p e f st) q = absurd (subst T (sym f ∙ m) tt)
-    ahead_over m (over e f) q = record {
+    ahead_over over q = record {
       cells_in = more_cells;
       path = [];
-      follows = subst (Follows (frontier.state (roots d) []) (cells ++ c ∷ [])) (advance_over here rest (zeros n w.path) e ∙ ap (λ (k : ℕ). frontier.state (drop k (roots d)) []) plus) joined;
+      follows = subst (Follows (frontier.state (roots d) []) (cells ++ c ∷ [])) (advance_over here rest (zeros n w.path) over ∙ ap (λ (k : ℕ). frontier.state (drop k (roots d)) []) plus) joined;
       root_in = omega arith;
       stands = q.first;
     }

@@ -1,21 +1,26 @@
 -- Behind the loop of the sheet check: a good sheet, or one that ended early.
-use Rattle.std.specs.Prelude.{◌≡◌, refl, List, [], ◌++◌, ◌≢◌, ℕ, ◌≤◌, length, drop}
+use Rattle.std.specs.Prelude.{◌≡◌, refl, List, [], ◌∷◌, ◌++◌, ◌≢◌, ℕ, ◌≤◌, length, drop}
 use Rattle.std.proofs.Common.{sym, ap, ◌∙◌, subst, append-nil, arith, length-drop, drop_of_length-le, take_all}
-use Rattle.dimension.specs.Sizes.{greatest_depth, root_count}
+use Rattle.dimension.specs.Sizes.{axes_of, greatest_depth, root_count}
+use Rattle.dimension.specs.Laws.{axes_dimension}
+use Rattle.bisection.specs.declared.Refusal.{Refusal}
+use Rattle.bisection.specs.Numbers.{number_of}
+use Rattle.bisection.specs.NumberLaws.{refuses}
 use Rattle.bisection.specs.Roots.{roots}
-use Rattle.bisection.specs.Refusals.{done}
+use Rattle.bisection.specs.Refusals.{done, refused_leaf}
 use Rattle.positions.specs.RootNumbers.{roots_count, roots_some}
 use Rattle.sheets.specs.declared.State.{State}
-use Rattle.sheets.specs.declared.SheetAnswer.{SheetAnswer}
 use Rattle.sheets.specs.Forests.{TreeCell, Leaves}
-use Rattle.sheets.specs.Sheets.{refused_leaf, GoodSheet, told, Checks, good}
-use Rattle.sheets.specs.Sheets.{ended_early}
+use Rattle.sheets.specs.Sheets.{GoodSheet, told, Checks, good}
+use Rattle.sheets.specs.Sheets.{start, record_refused, ended_early}
 use Rattle.sheets.specs.Theorems.Frontier.{Follows, end, good_follows, follows_good, follows_one}
 use Rattle.sheets.specs.Theorems.Frontier as frontier
 use Rattle.sheets.specs.Theorems.Listing.{Listed, listed_empty, cut}
 use Rattle.sheets.specs.Theorems.Listing.{CellsIn, cells_within, listed_records, leaves_cells}
 use Rattle.sheets.specs.Theorems.Listing.{same_dimension}
-use Rattle.sheets.specs.Progress.{Going, Ready, never, known, some_of, listed_good, some_dimension}
+use Rattle.sheets.specs.Steps.{Shut, no_record, refused}
+use Rattle.sheets.specs.Theorems.Good.{good_some}
+use Rattle.sheets.specs.Progress.{Going, some_of, listed_good}
 
 module _ {mark : List ℕ} {width : ℕ} {sheet : List ℕ} {s : State} (g : Going mark width sheet s) (le : length sheet ≤ s.offset) where
   at_end : s.offset ≡ length sheet
@@ -41,48 +46,37 @@ module _ {mark : List ℕ} {width : ℕ} {sheet : List ℕ} {s : State} (g : Goi
       (subst (λ (l : List TreeCell). Follows (frontier.state (roots h.dimension) []) l x.0) a x.1)) ∙ x.2 in
       omega (arith, roots_some h.dimension, ap length no_roots)
 
-  pub go_fresh : s.dimension ≡ 0 → Checks mark width sheet (told refused_leaf s.offset 0)
-  go_fresh z = ended_early g.behind.reading at_end (λ m h. none g.ready h) refl
+  pub go_early : s.root ≢ root_count (axes_of s.dim) → Checks mark width sheet (told refused_leaf s.offset 0)
+  go_early q = ended_early g.behind.reading at_end (λ m h. none h) refl
     where
-      none : {m : ℕ} → Ready mark width sheet g.cells s → GoodSheet mark width sheet m → ⊥
-      none (never a b x) h = some_cells h a
-      none (known a w q) h = some_dimension s.dimension a z
-
-  pub go_early : s.dimension ≢ 0 → s.root ≢ root_count s.dimension → Checks mark width sheet (told refused_leaf s.offset 0)
-  go_early z q = ended_early g.behind.reading at_end (λ m h. none g.ready h) refl
-    where
-      none : {m : ℕ} → Ready mark width sheet g.cells s → GoodSheet mark width sheet m → ⊥
-      none (never a b y) h = z b
-      none (known a w y) h =
+      none : {m : ℕ} → GoodSheet mark width sheet m → ⊥
+      none h =
           let x = over_in h in
-          let e : h.dimension ≡ s.dimension = same_dimension (some_of g.cells (some_cells h))
-          (subst (CellsIn h.dimension) (the_cells h) (leaves_cells h.dimension h.has_dimension h.leaves)) w.cells_in in
-          let f : Follows (frontier.state (roots s.dimension) []) g.cells x.0 = subst (λ (d : ℕ). Follows (frontier.state (roots d) []) g.cells x.0) e x.1 in
-          let none_left : drop s.root (roots s.dimension) ≡ [] = ap (λ (x : frontier.State). x.roots) (follows_one w.follows f) ∙ x.2 in
-          q (omega (arith, w.root_in, length-drop s.root (roots s.dimension), ap length none_left, roots_count s.dimension))
+          let e : h.dimension ≡ axes_of s.dim = same_dimension (some_of g.cells (some_cells h))
+          (subst (CellsIn h.dimension) (the_cells h) (leaves_cells h.dimension h.has_dimension h.leaves)) g.ahead.cells_in in
+          let f : Follows (frontier.state (roots (axes_of s.dim)) []) g.cells x.0 = subst (λ (d : ℕ). Follows (frontier.state (roots d) []) g.cells x.0) e x.1 in
+          let none_left : drop s.root (roots (axes_of s.dim)) ≡ [] = ap (λ (x : frontier.State). x.roots) (follows_one g.ahead.follows f) ∙ x.2 in
+          q (omega (arith, g.ahead.root_in, length-drop s.root (roots (axes_of s.dim)), ap length none_left, roots_count (axes_of s.dim)))
 
-  pub go_good : s.dimension ≢ 0 → s.root ≡ root_count s.dimension → Checks mark width sheet (told done 0 s.records)
-  go_good z q = by g.ready
+  pub go_good : s.root ≡ root_count (axes_of s.dim) → Checks mark width sheet (told done 0 s.records)
+  go_good q = good (record {
+    dimension = axes_of s.dim;
+    has_dimension = axes_dimension s.dim;
+    cells = g.cells;
+    records = listed_records g.ahead.cells_in all_listed;
+    count = g.behind.count;
+    leaves = follows_good (subst (λ (rs : List (List ℕ)). Follows (frontier.state (roots (axes_of s.dim)) []) g.cells (frontier.state rs g.ahead.path)) none_left g.ahead.follows)
+        (cells_within g.ahead.cells_in);
+  }) refl
     where
-      by : Ready mark width sheet g.cells s → Checks mark width sheet (told done 0 s.records)
-      by (never a b y) = absurd (z b)
-      by (known a w y) =
-          let past : length (roots s.dimension) ≤ s.root = omega (arith, roots_count s.dimension) in
-          let none_left : drop s.root (roots s.dimension) ≡ [] = drop_of_length-le (roots s.dimension) past in
-          good (record {
-            dimension = s.dimension;
-            has_dimension = a;
-            cells = g.cells;
-            records = listed_records w.cells_in all_listed;
-            count = g.behind.count;
-            leaves = follows_good (subst (λ (rs : List (List ℕ)). Follows (frontier.state (roots s.dimension) []) g.cells (frontier.state rs w.path)) none_left w.follows)
-                (cells_within w.cells_in);
-          }) refl
+      none_left : drop s.root (roots (axes_of s.dim)) ≡ []
+      none_left = drop_of_length-le (roots (axes_of s.dim)) (omega (arith, roots_count (axes_of s.dim)))
 
--- an answer by its fields
-pub answer_told : {mark : List ℕ} {width : ℕ} {sheet : List ℕ} (a : SheetAnswer) (x y : ℕ) → (a.refusal ≡ x) × (a.offset ≡ y) × (a.records ≡ 0) → Checks mark width sheet (told x y 0)
-    → Checks mark width sheet a
-answer_told {mark} {width} {sheet} a x y e r = subst (Checks mark width sheet) (sym same) r
+-- before the loop: no record opens the sheet
+pub shut_checks : {mark : List ℕ} {width : ℕ} {sheet : List ℕ} {x : Refusal} → Shut mark sheet x → Checks mark width sheet (told (number_of x) 0 0)
+shut_checks {mark} {width} {sheet} (no_record z e) = ended_early start (sym z) (λ m h. omega (arith, good_some h, ap length (listed_empty mark width (listed_good h) (empty sheet z)))) (ap (λ (n : ℕ). told n 0 0) e)
   where
-    same : a ≡ told x y 0
-    same = λ i. record { refusal = e.0 i; offset = e.1 i; records = e.2 i }
+    empty : (l : List ℕ) → length l ≡ 0 → l ≡ []
+    empty [] e = refl
+    empty (b ∷ bs) e = absurd (omega arith)
+shut_checks {width = width} {x = x} (refused h e) = record_refused start h (λ q. refuses x (e width ∙ q)) (ap (λ (n : ℕ). told n 0 0) (e width))

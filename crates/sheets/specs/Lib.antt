@@ -3,6 +3,8 @@
 pub mod Forests
 -- Records, good sheets, the next leaf, a record's own tests, and what the sheet check answers.
 pub mod Sheets
+-- The answer of the sheet check in the form that a C program has of it.
+pub mod Forms
 -- What is proved of the definitions.
 pub mod Theorems
 -- What the functions answer, and what their proofs use.

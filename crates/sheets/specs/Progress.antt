@@ -1,30 +1,34 @@
 -- The loop of the sheet check: what has been read is a front of some good sheet, and its state stands for the cell behind it.
-use Rattle.std.specs.Prelude.{◌≡◌, Bool, true, List, [], ◌∷◌, ◌++◌, ◌≢◌, ℕ, suc, ◌+◌, ◌-◌, ◌^◌, ◌≤◌, ◌<◌, T, length, get_or, take, drop}
+use Rattle.std.specs.Prelude.{◌≡◌, Bool, List, [], ◌∷◌, ◌++◌, ◌≢◌, ℕ, Option, Some, Result, Ok, Err, suc, ◌+◌, ◌-◌, ◌^◌, ◌≤◌, ◌<◌, T, length, get_or, take, drop, unwrap_or}
+use Rattle.std.specs.Result.{result_err}
 use Rattle.std.proofs.Math.Path.{refl}
 use Rattle.std.proofs.Common.{sym, ap, ◌∙◌, subst, append_assoc, arith, length-append, length-drop, take_at, take-add}
-use Rattle.dimension.specs.Sizes.{is_dimension, greatest_depth}
-use Rattle.dimension.specs.Laws.{dimension}
+use Rattle.dimension.specs.Sizes.{axes_of, greatest_depth}
+use Rattle.dimension.specs.Laws.{axes_dimension}
+use Rattle.bisection.specs.declared.Refusal.{Refusal}
+use Rattle.bisection.specs.declared.Refusal.TheVariants.{Leaf}
 use Rattle.bisection.specs.Roots.{roots}
 use Rattle.bisection.specs.Codes.{code_of, IsCodeOf}
 use Rattle.bisection.specs.Refusals.{done, code_refusal}
+use Rattle.bisection.specs.Numbers.{number_of, refusal_in}
+use Rattle.bisection.specs.NumberLaws.{refuses}
 use Rattle.bisection.proofs.Theorems.CodePaths.{one_path, code_passes}
 use Rattle.codes.specs.Fronts.{front_dimension, front_code}
 use Rattle.codes.specs.Fronts.Laws.{front_code_dimension, front_root}
 use Rattle.positions.specs.RootNumbers.{roots_count, roots_few}
 use Rattle.next.specs.declared.Next.{Next}
 use Rattle.next.specs.declared.Match.{Match}
-use Rattle.next.specs.declared.Onward.{Onward}
 use Rattle.next.specs.Paths.{steps, zeros}
 use Rattle.next.specs.Nexts.{Stands, First, Matched, Gone, AfterIs}
 use Rattle.next.specs.Matching.{matched_ready, matched_boxes}
 use Rattle.sheets.specs.declared.State.{State}
 use Rattle.sheets.specs.Forests.{TreeCell, tree_cell, Leaves}
-use Rattle.sheets.specs.Sheets.{refused_leaf, GoodSheet, Begins, behind_mark, body_length, record_length, record_refusal, Read, start, next, told, Checks, record_refused}
+use Rattle.sheets.specs.Sheets.{GoodSheet, Begins, behind_mark, body_length, record_length, record_refusal, Read, start, next, told, Checks, record_refused}
 use Rattle.sheets.specs.Sheets.{not_next}
-use Rattle.sheets.specs.Steps.{state_of, OpenIs, opens, shut, Known, body_of, FitsIs, no_dimension, unmarked, no_root, other, cut_short, fitting, MoveReady, MoveIs}
+use Rattle.sheets.specs.Steps.{state_of, Opens, body_of, Fitting, Unfit, unmarked, no_root, other, cut_short, FitsIs, MoveReady, MoveIs}
 use Rattle.sheets.specs.Steps as steps_of
 use Rattle.sheets.specs.StepLaws.{parts_marked, parts_passed, record_marked, part_all}
-use Rattle.sheets.specs.Theorems.Frontier.{Follows, leaf, begins_follows, follows_begins}
+use Rattle.sheets.specs.Theorems.Frontier.{Follows, begins_follows, follows_begins}
 use Rattle.sheets.specs.Theorems.Frontier as frontier
 use Rattle.sheets.specs.Theorems.Reading.{passed, unmarked_by_code}
 use Rattle.sheets.specs.Theorems.Listing.{record_of, IsRecord, record_read, Listed, listed_none, listed_more, listed_join, Cut, cut}
@@ -55,39 +59,28 @@ pub record Behind (mark : List ℕ) (width : ℕ) (sheet : List ℕ) (offset rec
 behind_none : {mark : List ℕ} {width : ℕ} {sheet : List ℕ} → Behind mark width sheet 0 0 []
 behind_none = record { inside = omega arith; few = omega arith; listed = listed_none; count = refl; reading = start }
 
--- in the dimension of the record that comes, where that passes; or no record can
-pub data Ready (mark : List ℕ) (width : ℕ) (sheet : List ℕ) (cells : List TreeCell) (s : State) : Type 0 where
-  never : cells ≡ [] → s.dimension ≡ 0 → record_refusal mark width (drop s.offset sheet) ≢ done → Ready mark width sheet cells s
-  known : is_dimension s.dimension ≡ true → Ahead s.dimension cells s.root s.next
-      → ((d : ℕ) (c : TreeCell) → length c.root ≡ front_dimension (behind_mark mark (drop s.offset sheet)) → CellsIn d (cells ++ c ∷ []) → s.dimension ≡ d) → Ready mark width sheet cells s
-
+-- in the dimension of the record that comes, where that passes
 pub record Going (mark : List ℕ) (width : ℕ) (sheet : List ℕ) (s : State) : Type 0 where
   pub cells : List TreeCell
   pub behind : Behind mark width sheet s.offset s.records cells
-  pub ready : Ready mark width sheet cells s
+  pub ahead : Ahead (axes_of s.dim) cells s.root s.next
+  pub named : (d : ℕ) (c : TreeCell) → length c.root ≡ front_dimension (behind_mark mark (drop s.offset sheet)) → CellsIn d (cells ++ c ∷ []) → axes_of s.dim ≡ d
 
-pub going_start : (mark : List ℕ) (width : ℕ) (sheet : List ℕ) {s : State} → OpenIs mark sheet s → Going mark width sheet s
-going_start mark width sheet (opens {n = n} {d = d} k q f e) = subst (Going mark width sheet) (sym e)
-    (record { cells = []; behind = behind_none; ready = known k (ahead_first d n f) (λ i c o v. q ∙ sym o ∙ last_dimension [] c v) })
-going_start mark width sheet (shut h e) = subst (Going mark width sheet) (sym e) (record { cells = []; behind = behind_none; ready = never refl refl (h width) })
-
-pub some_dimension : (n : ℕ) → is_dimension n ≡ true → n ≢ 0
-some_dimension n e q = omega (arith, (dimension n e).two)
-
-pub go_known : {mark : List ℕ} {width : ℕ} {sheet : List ℕ} {s : State} → Going mark width sheet s → Known s
-go_known {mark} {width} {sheet} {s} o = record { known = λ n. by n o.ready }
-  where
-    by : s.dimension ≢ 0 → Ready mark width sheet o.cells s → is_dimension s.dimension ≡ true
-    by n (never a z h) = absurd (n z)
-    by n (known k w q) = k
+pub going_start : {mark : List ℕ} {width : ℕ} {sheet : List ℕ} {s : State} → Opens mark sheet s → Going mark width sheet s
+going_start {mark} {width} {sheet} {s} o = subst (Going mark width sheet) (sym o.is) (record {
+  cells = [];
+  behind = behind_none;
+  ahead = ahead_first (axes_of s.dim) s.next o.first;
+  named = λ d c a v. o.dimension_is ∙ sym a ∙ last_dimension [] c v;
+})
 
 -- a record whose code matches has the length that its bytes tell
-fit_body : (mark : List ℕ) (width : ℕ) (bs : List ℕ) (s : State) {root : List ℕ} {p : List Bool} {m : Match} → Stands s.dimension s.next root p → Matched root p (behind_mark mark bs) m
+fit_body : (mark : List ℕ) (width : ℕ) (bs : List ℕ) (s : State) {root : List ℕ} {p : List Bool} {m : Match} → Stands (axes_of s.dim) s.next root p → Matched root p (behind_mark mark bs) m
     → body_of width s m ≡ body_length width (behind_mark mark bs)
 unfolding body_length
 fit_body mark width bs s st h = rw (h.length_is, axes) refl
   where
-    axes : s.dimension ≡ front_dimension (behind_mark mark bs)
+    axes : axes_of s.dim ≡ front_dimension (behind_mark mark bs)
     axes = sym st.cell.rooted.axes ∙ sym (front_root h.first.is_code) ∙ front_code_dimension (behind_mark mark bs)
 
 -- a record that passes its own tests
@@ -129,14 +122,12 @@ module _ {mark : List ℕ} {width : ℕ} {sheet : List ℕ} {s : State} (o : Goi
   axes = sym (front_root is_code) ∙ front_code_dimension (behind_mark mark bs)
 
   -- a good sheet that begins so has the next leaf here
-  begins_first : Begins mark width (take (s.offset + n) sheet) → is_dimension s.dimension ≡ true → (w : Ahead s.dimension o.cells s.root s.next)
-      → ((d : ℕ) (c : TreeCell) → length c.root ≡ front_dimension (behind_mark mark bs) → CellsIn d (o.cells ++ c ∷ []) → s.dimension ≡ d)
-      → (s.root < length (roots s.dimension)) × First (get_or (roots s.dimension) s.root []) w.path (front_code (behind_mark mark bs))
-  begins_first b k w q = (
+  begins_first : Begins mark width (take (s.offset + n) sheet) → (s.root < length (roots (axes_of s.dim))) × First (get_or (roots (axes_of s.dim)) s.root []) o.ahead.path (front_code (behind_mark mark bs))
+  begins_first b = (
     t.root_left,
     record {
       n = t.n;
-      is_code = subst (λ (r : List ℕ). IsCodeOf (front_code (behind_mark mark bs)) r (steps (zeros t.n w.path))) t.root_is
+      is_code = subst (λ (r : List ℕ). IsCodeOf (front_code (behind_mark mark bs)) r (steps (zeros t.n o.ahead.path))) t.root_is
           (subst (IsCodeOf (front_code (behind_mark mark bs)) c.root) t.path_is is_code);
     },
   )
@@ -150,38 +141,32 @@ module _ {mark : List ℕ} {width : ℕ} {sheet : List ℕ} {s : State} (o : Goi
       follows : (x : frontier.State) × Follows (frontier.state (roots b.good.dimension) []) (o.cells ++ c ∷ []) x
       follows = begins_follows (o.cells ++ c ∷ []) l.behind (subst (Leaves (roots b.good.dimension) (greatest_depth b.good.dimension)) l.is b.good.leaves)
 
-      t : Taken w c
-      t = taken w c (subst (λ (i : ℕ). Follows (frontier.state (roots i) []) (o.cells ++ c ∷ []) follows.0) (sym (q _ c axes cells_are)) follows.1)
+      t : Taken o.ahead c
+      t = taken o.ahead c (subst (λ (i : ℕ). Follows (frontier.state (roots i) []) (o.cells ++ c ∷ []) follows.0) (sym (o.named _ c axes cells_are)) follows.1)
 
   -- one that does not fit is not the next leaf
-  not_begun : {r : Match} → FitsIs mark width s bs r → r.length ≡ 0 → Begins mark width (take (s.offset + n) sheet) → ⊥
-  not_begun {r} f e b = by o.ready f
-    where
-      by : Ready mark width sheet o.cells s → FitsIs mark width s bs r → ⊥
-      by (never a z h) f = h ok
-      by (known k w q) (no_dimension z x) = some_dimension s.dimension k z
-      by (known k w q) (unmarked m x) = subst T (sym (parts_marked mark width bs ok) ∙ m) tt
-      by (known k w q) (no_root z x) = omega (arith, (begins_first b k w q).0, z, roots_count s.dimension)
-      by (known k w q) (other m z x) = let t = begins_first b k w q in m.told (get_or (roots s.dimension) s.root []) w.path (w.stands t.0) t.1 z
-      by (known k w q) (cut_short m z l x) =
-          let t = begins_first b k w q in
-          let st = w.stands t.0 in
-          let room = (passed width (behind_mark mark bs) (parts_passed mark width bs ok)).inside in
-          omega (arith, fit_body mark width bs s st (m.hit (get_or (roots s.dimension) s.root []) w.path st z), room, l)
-      by (known k w q) (fitting z m x y h l) = h e
+  not_begun : Unfit mark width s bs → Begins mark width (take (s.offset + n) sheet) → ⊥
+  not_begun (unmarked m) b = subst T (sym (parts_marked mark width bs ok) ∙ m) tt
+  not_begun (no_root z) b = omega (arith, (begins_first b).0, z, roots_count (axes_of s.dim))
+  not_begun (other m) b = let t = begins_first b in m.told (get_or (roots (axes_of s.dim)) s.root []) o.ahead.path (o.ahead.stands t.0) t.1
+  not_begun (cut_short m l) b =
+      let t = begins_first b in
+      let st = o.ahead.stands t.0 in
+      let room = (passed width (behind_mark mark bs) (parts_passed mark width bs ok)).inside in
+      omega (arith, fit_body mark width bs s st (m.told (get_or (roots (axes_of s.dim)) s.root []) o.ahead.path st), room, l)
 
   -- what is read with it is a front of a good sheet
-  module _ (d : ℕ) (k : is_dimension d ≡ true) {root : ℕ} {cell : Next} (w : Ahead d (o.cells ++ c ∷ []) root cell) where
+  module _ {root : ℕ} {cell : Next} (w : Ahead (axes_of s.dim) (o.cells ++ c ∷ []) root cell) where
     begun : Begins mark width (take (s.offset + n) sheet)
     begun =
         let r = follows_begins w.follows (cells_within w.cells_in) in
-        let x = write mark width d r.0 in
+        let x = write mark width (axes_of s.dim) r.0 in
         record {
           rest = x.sheet;
           count = length ((o.cells ++ c ∷ []) ++ r.0);
           good = record {
-            dimension = d;
-            has_dimension = k;
+            dimension = axes_of s.dim;
+            has_dimension = axes_dimension s.dim;
             cells = (o.cells ++ c ∷ []) ++ r.0;
             leaves = r.1;
             records = records_join (listed_records w.cells_in more_listed)
@@ -190,7 +175,7 @@ module _ {mark : List ℕ} {width : ℕ} {sheet : List ℕ} {s : State} (o : Goi
           };
         }
 
-    behind_on : Going mark width sheet (state_of (s.offset + n) (s.records + 1) d root cell)
+    behind_on : Going mark width sheet (state_of (s.offset + n) (s.records + 1) s.dim root cell)
     behind_on = record {
       cells = o.cells ++ c ∷ [];
       behind = record {
@@ -200,117 +185,107 @@ module _ {mark : List ℕ} {width : ℕ} {sheet : List ℕ} {s : State} (o : Goi
         count = length-append o.cells (c ∷ []) ∙ ap (λ (k : ℕ). k + 1) o.behind.count;
         reading = subst (λ (k : ℕ). Read mark width sheet (s.offset + n) k) plus (next o.behind.reading ok refl begun);
       };
-      ready = known k w (λ i x q v. same_dimension (omega (arith, length-append o.cells (c ∷ []))) w.cells_in (cells_front (o.cells ++ c ∷ []) (x ∷ []) v));
+      ahead = w;
+      named = λ i x q v. same_dimension (omega (arith, length-append o.cells (c ∷ []))) w.cells_in (cells_front (o.cells ++ c ∷ []) (x ∷ []) v);
     }
       where
         plus : suc s.records ≡ s.records + 1
         plus = omega arith
 
--- a record that fits: the state is in its dimension, and its code is that of the next leaf
-pub record Fitted (mark : List ℕ) (width : ℕ) (sheet : List ℕ) (cells : List TreeCell) (s : State) (r : Match) : Type 0 where
-  pub dimension_known : is_dimension s.dimension ≡ true
-  pub ahead : Ahead s.dimension cells s.root s.next
-  pub root_left : s.root < length (roots s.dimension)
-  pub match : Matched (get_or (roots s.dimension) s.root []) ahead.path (behind_mark mark (drop s.offset sheet)) r
+-- a record that fits: its code is that of the next leaf
+pub record Fitted {mark : List ℕ} {width : ℕ} {sheet : List ℕ} {s : State} (o : Going mark width sheet s) (m : Match) : Type 0 where
+  pub root_left : s.root < length (roots (axes_of s.dim))
+  pub match : Matched (get_or (roots (axes_of s.dim)) s.root []) o.ahead.path (behind_mark mark (drop s.offset sheet)) m
   pub ok : record_refusal mark width (drop s.offset sheet) ≡ done
-  pub size : body_of width s r ≡ body_length width (behind_mark mark (drop s.offset sheet))
+  pub size : body_of width s m ≡ body_length width (behind_mark mark (drop s.offset sheet))
 
-module _ {mark : List ℕ} {width : ℕ} {sheet : List ℕ} {s : State} (o : Going mark width sheet s) {r : Match} (f : FitsIs mark width s (drop s.offset sheet) r) where
-  fitted : r.length ≢ 0 → Fitted mark width sheet o.cells s r
-  fitted h = by o.ready f
-    where
-      by : Ready mark width sheet o.cells s → FitsIs mark width s (drop s.offset sheet) r → Fitted mark width sheet o.cells s r
-      by q (no_dimension z x) = absurd (h x)
-      by q (unmarked m x) = absurd (h x)
-      by q (no_root z x) = absurd (h x)
-      by q (other m z x) = absurd (h x)
-      by q (cut_short m z l x) = absurd (h x)
-      by (never a z x) (fitting y m q p e l) = absurd (y z)
-      by (known k w q) (fitting y m x p e l) = record {
-        dimension_known = k;
-        ahead = w;
-        root_left = left;
-        match = at;
-        ok = sym (record_marked mark width (drop s.offset sheet) m done (sym (unmarked_by_code width (behind_mark mark (drop s.offset sheet)) passes
-            (subst (λ (i : ℕ). i ≤ length (behind_mark mark (drop s.offset sheet))) size l))));
-        size = size;
-      }
-        where
-          left : s.root < length (roots s.dimension)
-          left = omega (arith, w.root_in, roots_count s.dimension, x)
+fitted : {mark : List ℕ} {width : ℕ} {sheet : List ℕ} {s : State} (o : Going mark width sheet s) {m : Match} → Fitting mark width s (drop s.offset sheet) m → Fitted o m
+fitted {mark} {width} {sheet} {s} o {m} f = record {
+  root_left = left;
+  match = at;
+  ok = sym (record_marked mark width (drop s.offset sheet) f.marked done (sym (unmarked_by_code width (behind_mark mark (drop s.offset sheet)) passes (subst (λ (i : ℕ). i ≤ length (behind_mark mark (drop s.offset sheet))) size f.room))));
+  size = size;
+}
+  where
+    left : s.root < length (roots (axes_of s.dim))
+    left = omega (arith, o.ahead.root_in, roots_count (axes_of s.dim), f.root_left)
 
-          at : Matched (get_or (roots s.dimension) s.root []) w.path (behind_mark mark (drop s.offset sheet)) r
-          at = p.hit (get_or (roots s.dimension) s.root []) w.path (w.stands left) e
+    at : Matched (get_or (roots (axes_of s.dim)) s.root []) o.ahead.path (behind_mark mark (drop s.offset sheet)) m
+    at = f.matches.told (get_or (roots (axes_of s.dim)) s.root []) o.ahead.path (o.ahead.stands left)
 
-          size : body_of width s r ≡ body_length width (behind_mark mark (drop s.offset sheet))
-          size = fit_body mark width (drop s.offset sheet) s (w.stands left) at
+    size : body_of width s m ≡ body_length width (behind_mark mark (drop s.offset sheet))
+    size = fit_body mark width (drop s.offset sheet) s (o.ahead.stands left) at
 
-          passes : code_refusal (front_code (behind_mark mark (drop s.offset sheet))) ≡ done
-          passes = rw at.first.is_code.is (code_passes _ _ at.first.is_code.good_root at.first.is_code.good_path)
+    passes : code_refusal (front_code (behind_mark mark (drop s.offset sheet))) ≡ done
+    passes = rw at.first.is_code.is (code_passes _ _ at.first.is_code.good_root at.first.is_code.good_path)
 
 -- behind it
 pub record Moved (mark : List ℕ) (width : ℕ) (sheet : List ℕ) (s t : State) : Type 0 where
   pub going_on : Going mark width sheet t
   pub farther : s.offset < t.offset
 
-module _ {mark : List ℕ} {width : ℕ} {sheet : List ℕ} {s : State} (o : Going mark width sheet s) {r : Match} (two : length mark ≡ 2) (f : Fitted mark width sheet o.cells s r) where
-  long : 2 + body_of width s r ≡ record_length mark width (drop s.offset sheet)
+module _ {mark : List ℕ} {width : ℕ} {sheet : List ℕ} {s : State} (o : Going mark width sheet s) {m : Match} (two : length mark ≡ 2) (f : Fitted o m) where
+  long : 2 + body_of width s m ≡ record_length mark width (drop s.offset sheet)
   unfolding record_length
   long = rw (two, f.size) refl
 
-  fitted_ready : length sheet < 2 ^ 64 → MoveReady width s r
+  fitted_ready : length sheet < 2 ^ 64 → MoveReady width s m
   fitted_ready h =
       let room = record_inside mark width (drop s.offset sheet) f.ok in
       record {
-        dimension = f.dimension_known;
-        ready = (matched_ready (f.ahead.stands f.root_left) f.match, matched_boxes (f.ahead.stands f.root_left) f.match);
-        root_room = omega (arith, f.root_left, roots_few s.dimension f.dimension_known);
+        ready = (matched_ready (o.ahead.stands f.root_left) f.match, matched_boxes (o.ahead.stands f.root_left) f.match);
+        root_room = omega (arith, f.root_left, roots_few (axes_of s.dim) (axes_dimension s.dim));
         offset_room = omega (arith, long, room.2, length-drop s.offset sheet, o.behind.inside);
         records_room = omega (arith, o.behind.few, room.1, room.2, length-drop s.offset sheet);
       }
 
-  the_cell : IsRecord.of (it o f.ok) ≡ tree_cell (get_or (roots s.dimension) s.root []) (steps (zeros f.match.first.n f.ahead.path))
+  the_cell : IsRecord.of (it o f.ok) ≡ tree_cell (get_or (roots (axes_of s.dim)) s.root []) (steps (zeros f.match.first.n o.ahead.path))
   the_cell = let e = one_path (is_code o f.ok) f.match.first.is_code in λ i. record { root = e.0 i; path = e.1 i }
 
-  fitted_on : {t : State} → MoveIs width s r t → Moved mark width sheet s t
-  fitted_on {t} m = by m
+  fitted_on : {t : State} → MoveIs width s m t → Moved mark width sheet s t
+  fitted_on {t} v = by v
     where
       here : List ℕ
-      here = get_or (roots s.dimension) s.root []
+      here = get_or (roots (axes_of s.dim)) s.root []
 
-      ax : length (it o f.ok).of.root ≡ s.dimension
-      ax = ap (λ (x : TreeCell). length x.root) the_cell ∙ (f.ahead.stands f.root_left).cell.rooted.axes
+      ax : length (it o f.ok).of.root ≡ axes_of s.dim
+      ax = ap (λ (x : TreeCell). length x.root) the_cell ∙ (o.ahead.stands f.root_left).cell.rooted.axes
 
-      gone : {x : Onward} → AfterIs s.dimension s.next r.depth x → Gone s.dimension here (zeros f.match.first.n f.ahead.path) x
-      gone a = a.gone here f.ahead.path f.match.first.n (f.ahead.stands f.root_left) f.match.depth_is
+      gone : {x : Option Next} → AfterIs (axes_of s.dim) s.next m.depth x → Gone (axes_of s.dim) here (zeros f.match.first.n o.ahead.path) x
+      gone a = a.gone here o.ahead.path f.match.first.n (o.ahead.stands f.root_left) f.match.depth_is
 
-      to : {root : ℕ} {cell : Next} → Ahead s.dimension (o.cells ++ (it o f.ok).of ∷ []) root cell
-          → t ≡ state_of (s.offset + (2 + body_of width s r)) (s.records + 1) s.dimension root cell → Moved mark width sheet s t
-      to {root} {cell} w e = subst (Moved mark width sheet s) (sym (e ∙ ap (λ (i : ℕ). state_of (s.offset + i) (s.records + 1) s.dimension root cell) long))
-          (record { going_on = behind_on o f.ok s.dimension f.dimension_known w; farther = omega (arith, (record_inside mark width (drop s.offset sheet) f.ok).1) })
+      to : {root : ℕ} {cell : Next} → Ahead (axes_of s.dim) (o.cells ++ (it o f.ok).of ∷ []) root cell
+          → t ≡ state_of (s.offset + (2 + body_of width s m)) (s.records + 1) s.dim root cell → Moved mark width sheet s t
+      to {root} {cell} w e = subst (Moved mark width sheet s) (sym (e ∙ ap (λ (i : ℕ). state_of (s.offset + i) (s.records + 1) s.dim root cell) long))
+          (record { going_on = behind_on o f.ok w; farther = omega (arith, (record_inside mark width (drop s.offset sheet) f.ok).1) })
 
-      by : MoveIs width s r t → Moved mark width sheet s t
-      by (steps_of.on a m e) = to (ahead_on f.ahead f.root_left _ (it o f.ok).good ax f.match.first.n the_cell m (gone a)) e
-      by (steps_of.over a m q e) = to (ahead_over f.ahead f.root_left _ (it o f.ok).good ax f.match.first.n the_cell m (gone a) q) e
+      by : MoveIs width s m t → Moved mark width sheet s t
+      by (steps_of.on a e) = to (ahead_on o.ahead f.root_left _ (it o f.ok).good ax f.match.first.n the_cell (gone a)) e
+      by (steps_of.over a q e) = to (ahead_over o.ahead f.root_left _ (it o f.ok).good ax f.match.first.n the_cell (gone a) q) e
 
 -- the loop's body: the record's bytes are those from the offset on
 module _ {mark : List ℕ} {width : ℕ} {sheet : List ℕ} {s : State} (g : Going mark width sheet s) (lt : s.offset < length sheet) where
   abbrev part : List ℕ
   part = take (length sheet - s.offset) (drop s.offset sheet)
 
-  pub go_own : (x : ℕ) → x ≡ record_refusal mark width part → x ≢ done → Checks mark width sheet (told x s.offset 0)
-  go_own x e h = let q = e ∙ ap (record_refusal mark width) (part_all sheet s.offset) in record_refused g.behind.reading lt (λ z. h (q ∙ z)) (ap (λ (i : ℕ). told i s.offset 0) q)
+  -- one that does not fit is refused by itself, or is not the next leaf
+  pub go_refused : Unfit mark width s part → (r : Result Unit Refusal) → refusal_in r ≡ record_refusal mark width part → (x : Refusal) → x ≡ unwrap_or (result_err r) Leaf
+      → Checks mark width sheet (told (number_of x) s.offset 0)
+  go_refused u (Ok o) e x q = not_next g.behind.reading lt ok (not_begun g ok (subst (λ (l : List ℕ). Unfit mark width s l) (part_all sheet s.offset) u)) (ap (λ (y : Refusal). told (number_of y) s.offset 0) q)
+    where
+      ok : record_refusal mark width (drop s.offset sheet) ≡ done
+      ok = ap (record_refusal mark width) (sym (part_all sheet s.offset)) ∙ sym e
+  go_refused u (Err y) e x q = record_refused g.behind.reading lt (λ z. refuses y (own ∙ z)) (ap (λ (y : Refusal). told (number_of y) s.offset 0) q ∙ ap (λ (i : ℕ). told i s.offset 0) own)
+    where
+      own : number_of y ≡ record_refusal mark width (drop s.offset sheet)
+      own = e ∙ ap (record_refusal mark width) (part_all sheet s.offset)
 
-  module _ {m : Match} (fit : FitsIs mark width s part m) where
-    f : FitsIs mark width s (drop s.offset sheet) m
-    f = subst (λ (l : List ℕ). FitsIs mark width s l m) (part_all sheet s.offset) fit
+  module _ {m : Match} (fit : FitsIs mark width s part (Some m)) (two : length mark ≡ 2) where
+    f : Fitted g m
+    f = fitted g (subst (λ (l : List ℕ). Fitting mark width s l m) (part_all sheet s.offset) fit)
 
-    pub go_leaf : m.length ≡ 0 → (x : ℕ) → x ≡ record_refusal mark width part → x ≡ done → Checks mark width sheet (told refused_leaf s.offset 0)
-    go_leaf z x e q = let ok = ap (record_refusal mark width) (sym (part_all sheet s.offset)) ∙ sym e ∙ q in not_next g.behind.reading lt ok (not_begun g ok f z) refl
+    pub go_ready : length sheet < 2 ^ 64 → MoveReady width s m
+    go_ready l = fitted_ready g two f l
 
-    module _ (two : length mark ≡ 2) (h : m.length ≢ 0) where
-      pub go_ready : length sheet < 2 ^ 64 → MoveReady width s m
-      go_ready l = fitted_ready g two (fitted g f h) l
-
-      pub go_on : {t : State} → MoveIs width s m t → Moved mark width sheet s t
-      go_on v = fitted_on g two (fitted g f h) v
+    pub go_on : {t : State} → MoveIs width s m t → Moved mark width sheet s t
+    go_on v = fitted_on g two f v

@@ -4,18 +4,10 @@ use Rattle.std.specs.Prelude.{◌≡◌, Bool, true, false, ◌&&◌, List, [], 
 use Rattle.dimension.specs.Sizes.{is_dimension, greatest_depth}
 use Rattle.bisection.specs.Roots.{roots}
 use Rattle.bisection.specs.Codes.{code_of}
-use Rattle.bisection.specs.Refusals.{done, need, own, first_refusal}
+use Rattle.bisection.specs.Refusals.{done, refused_record, refused_leaf, need, own, first_refusal}
 use Rattle.codes.specs.Fronts.{front_refusal, front_dimension, front_length, front_code, inner_refusal}
 use Rattle.sheets.specs.Forests.{TreeCell, tree_cell, Leaves}
 use Rattle.sheets.specs.declared.SheetAnswer.{SheetAnswer}
-
--- sheet: mark missing or wrong, or record cut short
-abbrev pub refused_record : ℕ
-refused_record = 13
-
--- sheet: record of another dimension, not the next leaf, or sheet ended early
-abbrev pub refused_leaf : ℕ
-refused_leaf = 14
 
 -- two mark bytes
 abbrev pub sheet_mark : List ℕ

@@ -1,71 +1,43 @@
 -- The laws of the functions of the sheet layer, one for each way out.
-use Rattle.std.specs.Prelude.{◌≡◌, Bool, true, false, ◌&&◌, ◌≢◌, ℕ, suc, ◌+◌, ◌-◌, ◌*◌, ◌≤◌, ◌<◌, min, eqb, leb, length, get_or, take, drop}
+use Rattle.std.specs.Prelude.{◌≡◌, true, false, ◌&&◌, ℕ, Some, Result, Ok, Err, IsOk, suc, ◌+◌, ◌-◌, ◌*◌, ◌≤◌, ◌<◌, eqb, leb, length, get_or, take, drop}
+use Rattle.std.specs.List.{slice_range}
 use Rattle.std.proofs.Math.Path.{refl, sym}
-use Rattle.std.proofs.Common.{ap, ◌∙◌, subst, arith, mul-le-mul, add-one}
+use Rattle.std.proofs.Common.{ap, ◌∙◌, subst, arith}
 use mathlib.Core.List.{List, [], ◌∷◌}
 use Rattle.std.proofs.Math.ListN.{length-drop}
 use Rattle.std.proofs.Math.Seq.{take_all}
-use borrow.Author.Tests.{eq-eqb, ne_eqb, le-leb, lt-leb, leb-true}
-use Rattle.dimension.specs.Sizes.{is_dimension}
-use Rattle.bisection.specs.Refusals.{done}
+use borrow.Author.Tests.{le-leb, lt-leb, leb-true}
+use Rattle.dimension.specs.Sizes.{axes_of}
+use Rattle.bisection.specs.declared.Refusal.{Refusal}
+use Rattle.bisection.specs.declared.Refusal.TheVariants.{Record}
+use Rattle.bisection.specs.Refusals.{done, refused_record}
+use Rattle.bisection.specs.Numbers.{number_of}
+use Rattle.bisection.specs.NumberLaws.{refuses}
 use Rattle.bisection.proofs.Theorems.Checked.{both}
 use Rattle.bisection.specs.Theorems.Ladders.{all_hold, holds, fails, past, stops}
 use Rattle.bisection.proofs.Theorems.Ladders.{first_is, own_last, held_at}
 use Rattle.codes.specs.declared.Head.{Head}
-use Rattle.codes.specs.Fronts.{front_refusal, front_length, front_code, inner_refusal, HeadIs, Headed}
-use Rattle.codes.specs.Fronts.Laws.{front_is_front, front_headed, front_known}
-use Rattle.next.specs.declared.Next.{Next}
+use Rattle.codes.specs.Fronts.{front_length, front_code, inner_refusal, HeadOf, HeadIs, Headed}
+use Rattle.codes.specs.Fronts.Laws.{front_is_front, front_headed}
 use Rattle.next.specs.declared.Match.{Match}
-use Rattle.next.specs.Nexts.{FirstIs, MatchIs}
+use Rattle.next.specs.Nexts.{MatchIs}
 use Rattle.sheets.specs.declared.Edition.{Edition}
 use Rattle.sheets.specs.declared.SheetAnswer.{SheetAnswer}
-use Rattle.sheets.specs.Sheets.{sample_width, refused_record, begins_with, behind_mark, is_marked, body_length, record_length, unmarked_refusal, record_refusal, Checks, SheetIs}
-use Rattle.sheets.specs.Steps.{mark_of, IsFirst, PartsAre, state_of, OpenIs, opens, shut}
+use Rattle.sheets.specs.declared.State.{State}
+use Rattle.sheets.specs.Sheets.{sample_width, begins_with, behind_mark, is_marked, body_length, record_length, unmarked_refusal, record_refusal, Checks, SheetIs}
+use Rattle.sheets.specs.Steps.{mark_of, IsFirst, Marked, PartsAre, OpenIs, refused, Unfit, cut_short}
 use Rattle.sheets.specs.Theorems.Reading.{passed}
-
--- the samples' length as the code computes it, and that it is small
-pub samples_small : (width d : ℕ) → width < 256 → d < 256 → width * suc d ≤ 65536
-samples_small width d h l = mul-le-mul {n₁ = width} {m₁ = suc d} {n₂ = 256} {m₂ = 256} (omega arith) (omega arith)
-
-pub samples_as : (width d w n : ℕ) → w ≡ width → n ≡ d → (n + 1 ≡ suc d) × (w * (n + 1) ≡ width * suc d)
-samples_as width d w n e f = (omega arith, rw (e, f, add-one d) refl)
 
 -- the mark's test, for a mark of two bytes
 module _ (first second : ℕ) where
   abbrev pub two_bytes : List ℕ
   two_bytes = first ∷ second ∷ []
 
-  begins_as : (bs : List ℕ) → 2 ≤ length bs → begins_with two_bytes bs ≡ (eqb (get_or bs 0 0) first && (eqb (get_or bs 1 0) second && true))
-  unfolding begins_with
-  begins_as [] h = absurd (omega arith)
-  begins_as (x ∷ []) h = absurd (omega arith)
-  begins_as (x ∷ y ∷ bs) h = refl
-
-  and_no : (b : Bool) → (b && false) ≡ false
-  and_no true = refl
-  and_no false = refl
-
-  and_yes : (b : Bool) → ((b && true) && true) ≡ b
-  and_yes true = refl
-  and_yes false = refl
-
-  module _ (bs : List ℕ) where
-    pub marked_short : length bs < 4 → false ≡ is_marked two_bytes bs
-    unfolding is_marked behind_mark
-    marked_short h = sym (rw (lt-leb 2 (length (drop 2 bs)) (omega (arith, length-drop 2 bs))) (and_no (begins_with two_bytes bs)))
-
-    module _ (h : 4 ≤ length bs) where
-      long : leb 2 (length (behind_mark two_bytes bs)) ≡ true
-      unfolding behind_mark
-      long = le-leb 2 (length (drop 2 bs)) (omega (arith, length-drop 2 bs))
-
-      pub marked_first : get_or bs 0 0 ≢ first → false ≡ is_marked two_bytes bs
-      unfolding is_marked
-      marked_first n = sym (rw (begins_as bs (omega arith), ne_eqb (get_or bs 0 0) first n) refl)
-
-      pub marked_second : get_or bs 0 0 ≡ first → eqb (get_or bs 1 0) second ≡ is_marked two_bytes bs
-      unfolding is_marked
-      marked_second e = sym (rw (begins_as bs (omega arith), eq-eqb (get_or bs 0 0) first e, long) (and_yes (eqb (get_or bs 1 0) second)))
+  pub marked_is : (bs : List ℕ) → is_marked two_bytes bs ≡ (leb 4 (length bs) && (eqb (get_or bs 0 0) first && eqb (get_or bs 1 0) second))
+  unfolding is_marked behind_mark begins_with
+  marked_is [] = grind arith
+  marked_is (x ∷ []) = grind arith
+  marked_is (x ∷ y ∷ bs) = grind arith
 
   pub part_marked : (bs : List ℕ) → take (length bs - 2) (drop 2 bs) ≡ behind_mark two_bytes bs
   unfolding behind_mark
@@ -81,52 +53,48 @@ unfolding behind_mark
 marked_long mark bs m = omega (arith, length-drop (length mark) bs, marked_two mark bs m)
 
 -- behind the mark: each way out is a test that fails behind tests that hold
-module _ (width : ℕ) (bs : List ℕ) (r : Head) (is : HeadIs bs r) where
-  pub body_head : r.refusal ≢ done → r.refusal ≡ unmarked_refusal width bs
+pub body_head : (width : ℕ) (bs : List ℕ) (x : Refusal) → HeadIs bs (Err x) → number_of x ≡ unmarked_refusal width bs
+unfolding unmarked_refusal
+body_head width bs x e = sym (first_is (stops (sym e) (refuses x)))
+
+module _ (width : ℕ) (bs : List ℕ) {r : Head} (is : HeadOf bs r) where
+  pub body_cut : length bs < r.length → refused_record ≡ unmarked_refusal width bs
   unfolding unmarked_refusal
-  body_head n = sym (first_is (stops (sym is.refusal) n))
+  body_cut h = sym (first_is (past is.passes (fails (lt-leb (front_length bs) (length bs) (omega (arith, is.length))))))
 
-  module _ (e : r.refusal ≡ done) where
-    passes : front_refusal bs ≡ done
-    passes = sym is.refusal ∙ e
+  -- the code that is got from the bytes
+  module _ {code : List ℕ} (inside : r.length ≤ length bs) (got : code ≡ slice_range bs 0 r.length) where
+    room : leb (front_length bs) (length bs) ≡ true
+    room = le-leb (front_length bs) (length bs) (omega (arith, is.length))
 
-    size : r.length ≡ front_length bs
-    size = is.length passes
+    front : code ≡ front_code bs
+    front = got ∙ ap (λ (n : ℕ). take n bs) size ∙ front_is_front bs
+      where
+        size : r.length - 0 ≡ front_length bs
+        size = omega (arith, is.length)
 
-    pub body_cut : length bs < r.length → refused_record ≡ unmarked_refusal width bs
+    pub body_headed : Headed code
+    body_headed = rw front (front_headed bs (omega (arith, is.length)) is.passes)
+
+    pub body_inner : (x : Refusal) → number_of x ≡ inner_refusal code → number_of x ≡ unmarked_refusal width bs
     unfolding unmarked_refusal
-    body_cut h = sym (first_is (past passes (fails (lt-leb (front_length bs) (length bs) (omega (arith, size))))))
+    body_inner x e = sym (first_is (past is.passes (holds room (stops (sym (rw front at e)) (refuses x)))))
 
-    module _ (h : r.length ≤ length bs) where
-      room : leb (front_length bs) (length bs) ≡ true
-      room = le-leb (front_length bs) (length bs) (omega (arith, size))
+    module _ (e : done ≡ inner_refusal code) {n : ℕ} (s : n ≡ width * suc (axes_of r.dim)) where
+      inner : inner_refusal (front_code bs) ≡ done
+      inner = sym (rw front at e)
 
-      front : take r.length bs ≡ front_code bs
-      front = ap (λ (n : ℕ). take n bs) size ∙ front_is_front bs
+      whole : r.length + n ≡ body_length width bs
+      unfolding body_length
+      whole = rw (s, is.length, is.dimension) refl
 
-      pub body_headed : Headed (take r.length bs)
-      body_headed = rw front (front_headed bs (omega (arith, size)) passes)
+      pub body_samples : length bs < r.length + n → refused_record ≡ unmarked_refusal width bs
+      unfolding unmarked_refusal
+      body_samples l = sym (first_is (past is.passes (holds room (past inner (fails (lt-leb (body_length width bs) (length bs) (omega (arith, whole))))))))
 
-      module _ (x : ℕ) (b : x ≡ inner_refusal (take r.length bs)) where
-        inner : inner_refusal (front_code bs) ≡ x
-        inner = sym (rw front at b)
-
-        pub body_inner : x ≢ done → x ≡ unmarked_refusal width bs
-        unfolding unmarked_refusal
-        body_inner n = sym (first_is (past passes (holds room (stops inner n))))
-
-        module _ (z : x ≡ done) (n : ℕ) (s : n ≡ width * suc r.dimension) where
-          whole : r.length + n ≡ body_length width bs
-          unfolding body_length
-          whole = rw (s, size, is.dimension passes) refl
-
-          pub body_samples : length bs < r.length + n → refused_record ≡ unmarked_refusal width bs
-          unfolding unmarked_refusal
-          body_samples l = sym (first_is (past passes (holds room (past (inner ∙ z) (fails (lt-leb (body_length width bs) (length bs) (omega (arith, whole))))))))
-
-          pub body_done : r.length + n ≤ length bs → done ≡ unmarked_refusal width bs
-          unfolding unmarked_refusal
-          body_done l = sym (first_is (past passes (holds room (past (inner ∙ z) (holds (le-leb (body_length width bs) (length bs) (omega (arith, whole))) all_hold)))))
+      pub body_done : r.length + n ≤ length bs → done ≡ unmarked_refusal width bs
+      unfolding unmarked_refusal
+      body_done l = sym (first_is (past is.passes (holds room (past inner (holds (le-leb (body_length width bs) (length bs) (omega (arith, whole))) all_hold)))))
 
 -- the record by its mark
 module _ (mark : List ℕ) (width : ℕ) (bs : List ℕ) where
@@ -139,12 +107,12 @@ module _ (mark : List ℕ) (width : ℕ) (bs : List ℕ) where
   record_marked m x e = e ∙ sym (first_is (holds m (own_last (unmarked_refusal width (behind_mark mark bs)))))
 
 -- the head behind a mark of two bytes, as the code reads it
-pub head_behind : {r : Head} (first second : ℕ) (bs : List ℕ) → HeadIs (take (length bs - 2) (drop 2 bs)) r → HeadIs (behind_mark (two_bytes first second) bs) r
-head_behind {r} first second bs is = subst (λ (l : List ℕ). HeadIs l r) (part_marked first second bs) is
+module _ (first second : ℕ) (bs : List ℕ) (r : Result Head Refusal) (is : HeadIs (take (length bs - 2) (drop 2 bs)) r) where
+  pub head_behind : HeadIs (behind_mark (two_bytes first second) bs) r
+  head_behind = subst (λ (l : List ℕ). HeadIs l r) (part_marked first second bs) is
 
--- and so the match behind it, in the dimension that the state has
-pub match_behind : {d e : ℕ} {n : Next} {m : Match} (first second : ℕ) (bs : List ℕ) → d ≡ e → MatchIs d n (take (length bs - 2) (drop 2 bs)) m → MatchIs e n (behind_mark (two_bytes first second) bs) m
-match_behind {d} {e} {n} {m} first second bs q is = subst (λ (l : List ℕ). MatchIs e n l m) (part_marked first second bs) (subst (λ (i : ℕ). MatchIs i n (take (length bs - 2) (drop 2 bs)) m) q is)
+  pub head_known : {h : Head} → r ≡ Ok h → HeadOf (behind_mark (two_bytes first second) bs) h
+  head_known e = subst (HeadIs (behind_mark (two_bytes first second) bs)) e head_behind
 
 -- the parts of a record that passes its own tests
 module _ (mark : List ℕ) (width : ℕ) (bs : List ℕ) (e : record_refusal mark width bs ≡ done) where
@@ -160,35 +128,34 @@ module _ (mark : List ℕ) (width : ℕ) (bs : List ℕ) (e : record_refusal mar
   unfolding record_length behind_mark
   parts_inside = omega (arith, (passed width (behind_mark mark bs) parts_passed).inside, length-drop (length mark) bs, marked_long mark bs parts_marked)
 
-  module _ (r : Head) (is : HeadIs (behind_mark mark bs) r) where
-    head_passes : front_refusal (behind_mark mark bs) ≡ done
-    head_passes = unfold unmarked_refusal in held_at _ tt parts_passed 0
+  -- so its head passes
+  pub parts_headed : (r : Result Head Refusal) → HeadIs (behind_mark mark bs) r → IsOk r
+  parts_headed (Ok h) is = refl
+  parts_headed (Err x) is = absurd (refuses x (body_head width (behind_mark mark bs) x is ∙ parts_passed))
 
-    pub parts_whole : length mark + (r.length + width * suc r.dimension) ≡ record_length mark width bs
+  module _ {r : Head} (is : HeadOf (behind_mark mark bs) r) {n : ℕ} (s : n ≡ width * suc (axes_of r.dim)) where
+    parts_whole : length mark + (r.length + n) ≡ record_length mark width bs
     unfolding record_length body_length
-    parts_whole = rw (is.length head_passes, is.dimension head_passes) refl
+    parts_whole = rw (s, is.length, is.dimension) refl
 
-    pub parts_are : (n : ℕ) → n ≡ length mark + (r.length + width * suc r.dimension) → PartsAre mark width bs (record { dimension = r.dimension; code = r.length; whole = n })
-    parts_are n q = record { dimension_is = is.dimension head_passes; code_is = is.length head_passes; whole_is = q ∙ parts_whole }
+    pub parts_fit : length mark + (r.length + n) ≤ length bs
+    parts_fit = omega (arith, parts_whole, parts_inside)
 
--- the ways out of `opened`
-module _ (mark bs : List ℕ) (n : Next) where
-  pub open_unmarked : is_marked mark bs ≡ false → OpenIs mark bs (state_of 0 0 0 0 n)
-  open_unmarked m = shut (λ width e. omega (arith, record_unmarked mark width bs m, e)) refl
+    pub parts_are : PartsAre mark width bs (record { dim = r.dim; code = r.length; whole = length mark + (r.length + n) })
+    parts_are = record { dimension_is = is.dimension; code_is = is.length; whole_is = parts_whole }
 
-  module _ (m : is_marked mark bs ≡ true) (h : Head) (is : HeadIs (behind_mark mark bs) h) where
-    pub open_refused : h.refusal ≢ done → OpenIs mark bs (state_of 0 0 0 0 n)
-    open_refused r = shut (λ width e. r (body_head width (behind_mark mark bs) h is r ∙ record_marked mark width bs m _ refl ∙ e)) refl
+-- a first record that is refused, by its mark or by its head
+module _ {mark bs : List ℕ} where
+  pub open_unmarked : 0 < length bs → is_marked mark bs ≡ false → OpenIs mark bs (Err Record)
+  open_unmarked some m = refused some (λ width. record_unmarked mark width bs m)
 
-    module _ (e : h.refusal ≡ done) where
-      front_passes : front_refusal (behind_mark mark bs) ≡ done
-      front_passes = sym is.refusal ∙ e
+  pub open_refused : {rest : List ℕ} → Marked mark bs rest → (x : Refusal) → HeadIs rest (Err x) → OpenIs mark bs (Err x)
+  open_refused m x e = refused (omega (arith, marked_long mark bs m.marked)) (λ width. record_marked mark width bs m.marked _ (body_head width (behind_mark mark bs) x (rw (← m.rest_is) e)))
 
-      pub open_known : is_dimension h.dimension ≡ true
-      open_known = rw (is.dimension front_passes) (front_known (behind_mark mark bs) front_passes)
-
-      pub open_first : (d : ℕ) → d ≡ h.dimension → FirstIs d 0 n → OpenIs mark bs (state_of 0 0 h.dimension 0 n)
-      open_first d q f = opens open_known (is.dimension front_passes) (subst (λ (i : ℕ). FirstIs i 0 n) q f) refl
+-- a record whose samples are cut short
+pub unfit_short : {mark bs rest : List ℕ} {width n : ℕ} {s : State} {m : Match} → Marked mark bs rest → MatchIs (axes_of s.dim) s.next rest (Some m) → n ≡ width * suc (axes_of s.dim) → length rest < m.length + n
+    → Unfit mark width s bs
+unfit_short {mark} {bs} {width = width} {s = s} {m = m} k is q h = cut_short {m = m} (rw (← k.rest_is) is) (omega (arith, q, ap length k.rest_is))
 
 -- what is checked of the edition of document 01 is what the sheet check answers
 pub first_checks : {sheet : List ℕ} {r : SheetAnswer} (e : Edition) → IsFirst e → Checks (mark_of e) e.width sheet r → SheetIs sheet r
@@ -197,6 +164,3 @@ first_checks {sheet} {r} e f c = subst (λ (m : List ℕ). Checks m sample_width
 -- the rest of a slice
 pub part_all : (s : List ℕ) (at : ℕ) → take (length s - at) (drop at s) ≡ drop at s
 part_all s at = take_all (length s - at) (drop at s) (omega (arith, length-drop at s))
-
-pub least : (n m : ℕ) → n ≤ m → min n m ≡ n
-least n m h = omega arith

@@ -3,27 +3,25 @@
 // code with that of the next cell; only where they differ do the record's own tests run, to name the refusal.
 #![tactic(auto)]
 
-ghost use Rattle.std.specs.Prelude.{◌≡◌, suc, ◌*◌, ◌≤◌, length};
+ghost use Rattle.std.specs.Prelude.{◌≡◌, false, suc, ◌*◌, ◌≤◌, length, MatchOption};
+ghost use Rattle.dimension.specs.Sizes.{axes_of};
+ghost use Rattle.bisection.specs.Numbers.{refusal_in};
 ghost use Rattle.bisection.specs.Refusals.{done};
+ghost use Rattle.sheets.specs.Forms.{sheet_answer};
 ghost use Rattle.sheets.specs.Sheets.{is_marked, unmarked_refusal, record_refusal, SheetIs};
-ghost use Rattle.sheets.specs.Steps.{mark_of, IsFirst, PartsAre, OpenIs, Known, FitsIs, MoveReady, MoveIs};
+ghost use Rattle.sheets.specs.Steps.{mark_of, IsFirst, Marked, PartsAre, OpenIs, FitsIs, MoveReady, MoveIs};
 
-use bisection::DONE;
+use bisection::{DONE, Refusal, Refused};
 use dimension::Dim;
 use next::{Match, Next};
-
-pub const REFUSED_RECORD: u8 = 13;
-
-pub const REFUSED_LEAF: u8 = 14;
 
 // How many bytes a mark has.
 pub const MARK_LENGTH: usize = 2;
 
-// An edition of sheets: the two mark bytes before each code, and how many bytes a sample has.
+// An edition of sheets: the mark before each code, and how many bytes a sample has.
 #[derive(Clone, Copy)]
 pub struct Edition {
-    pub first: u8,
-    pub second: u8,
+    pub mark: [u8; MARK_LENGTH],
     pub width: u8,
 }
 
@@ -32,13 +30,12 @@ pub fn first_edition() -> Edition
     ensures { IsFirst result }
 {
     Edition {
-        first: 0x43,
-        second: 0x4C,
+        mark: [0x43, 0x4C],
         width: 2,
     }
 }
 
-// The answer of the sheet check: where a refused record begins, or the number of records.
+// The answer of the sheet check, for a C program: where a refused record begins, or the number of records.
 #[repr(C)]
 #[derive(Clone, Copy)]
 pub struct SheetAnswer {
@@ -47,13 +44,32 @@ pub struct SheetAnswer {
     pub records: usize,
 }
 
-// What has been read: how far, how many records, and the next cell with its root's number. Dimension 0: no record has named one,
-// and there is no next cell. The running position on the line is the root's number and the next cell's path, in parts of its size.
+impl From<Result<usize, Refused>> for SheetAnswer {
+    ghost from_gives = { λ answer form. form ≡ sheet_answer answer };
+
+    fn from(answer: Result<usize, Refused>) -> SheetAnswer {
+        match answer {
+            Ok(records) => SheetAnswer {
+                refusal: DONE,
+                offset: 0,
+                records,
+            },
+            Err(Refused { refusal, offset }) => SheetAnswer {
+                refusal: refusal.into(),
+                offset,
+                records: 0,
+            },
+        }
+    }
+}
+
+// What has been read: how far, how many records, and the next cell with its root's number. The running position on the line is
+// the root's number and the next cell's path, in parts of its size.
 #[derive(Clone, Copy)]
 struct State {
     offset: usize,
     records: usize,
-    dimension: u8,
+    dim: Dim,
     root: usize,
     next: Next,
 }
@@ -61,62 +77,58 @@ struct State {
 // A record's dimension, and how many bytes its code has, and the whole record.
 #[derive(Clone, Copy)]
 pub struct RecordParts {
-    pub dimension: u8,
+    pub dim: Dim,
     pub code: usize,
     pub whole: usize,
 }
 
-// The bytes begin with the mark, and two more bytes follow it.
-fn is_marked(edition: Edition, bytes: &[u8]) -> bool
-    ensures { result ≡ is_marked (mark_of edition) bytes.now }
+// What stands behind the mark, where the bytes begin with it and two more bytes follow.
+#[tactic(auto, using(crate::specs::StepLaws::marked_is, crate::specs::StepLaws::part_marked))]
+fn behind_mark(edition: Edition, bytes: &[u8]) -> Option<&[u8]>
+    ensures { MatchOption result (is_marked (mark_of edition) bytes.now ≡ false) (λ rest. Marked (mark_of edition) bytes.now rest.now) }
 {
-    if bytes.len() < MARK_LENGTH + 2 {
-        return false;
+    let [first, second, rest @ ..] = bytes else {
+        return None;
+    };
+    if rest.len() < 2 || *first != edition.mark[0] || *second != edition.mark[1] {
+        return None;
     }
-    if bytes[0] != edition.first {
-        return false;
-    }
-    bytes[1] == edition.second
+    Some(rest)
 }
 
 // How many bytes the samples of a record have.
-pub fn samples_length(width: u8, dimension: u8) -> usize
-    ensures { (result ≡ width * suc dimension) × (result ≤ 65536) }
+pub fn samples_length(width: u8, dim: Dim) -> usize
+    ensures { (result ≡ width * suc (axes_of dim)) × (result ≤ 65536) }
 {
-    common::size(width) * (common::size(dimension) + 1)
+    usize::from(width) * (dim.axes() + 1)
 }
 
 // The tests behind the mark, in document 01's order.
-fn body_refusal(width: u8, bytes: &[u8]) -> u8
+#[tactic(auto, using(crate::specs::StepLaws::body_head))]
+fn body_check(width: u8, bytes: &[u8]) -> Result<(), Refusal>
     requires { 2 ≤ length bytes.now }
-    ensures { result ≡ unmarked_refusal width bytes.now }
+    ensures { refusal_in result ≡ unmarked_refusal width bytes.now }
 {
-    let head = codes::code_head(bytes);
-    if head.refusal != DONE {
-        return head.refusal;
+    let head = codes::code_head(bytes)?;
+    let Some(code) = bytes.get(..head.length) else {
+        return Err(Refusal::Record);
+    };
+    codes::code_body(code)?;
+    if bytes.len() < head.length + samples_length(width, head.dim) {
+        return Err(Refusal::Record);
     }
-    let code = head.length;
-    if bytes.len() < code {
-        return REFUSED_RECORD;
-    }
-    let refusal = codes::code_body(&bytes[..code]);
-    if refusal != DONE {
-        return refusal;
-    }
-    if bytes.len() < code + samples_length(width, head.dimension) {
-        return REFUSED_RECORD;
-    }
-    DONE
+    Ok(())
 }
 
 // A record's own tests.
-fn record_refusal(edition: Edition, bytes: &[u8]) -> u8
-    ensures { result ≡ record_refusal (mark_of edition) edition.width bytes.now }
+#[tactic(auto, using(crate::specs::StepLaws::record_unmarked, crate::specs::StepLaws::record_marked))]
+fn record_check(edition: Edition, bytes: &[u8]) -> Result<(), Refusal>
+    ensures { refusal_in result ≡ record_refusal (mark_of edition) edition.width bytes.now }
 {
-    if !is_marked(edition, bytes) {
-        return REFUSED_RECORD;
-    }
-    body_refusal(edition.width, &bytes[MARK_LENGTH..])
+    let Some(rest) = behind_mark(edition, bytes) else {
+        return Err(Refusal::Record);
+    };
+    body_check(edition.width, rest)
 }
 
 // The parts of a record that passes its own tests.
@@ -124,74 +136,48 @@ pub fn record_parts(edition: Edition, bytes: &[u8]) -> RecordParts
     requires { record_refusal (mark_of edition) edition.width bytes.now ≡ done }
     ensures { PartsAre (mark_of edition) edition.width bytes.now result }
 {
-    let head = codes::code_head(&bytes[MARK_LENGTH..]);
-    let dimension = head.dimension;
-    let code = head.length;
+    let head = codes::code_head(&bytes[MARK_LENGTH..]).unwrap();
     RecordParts {
-        dimension,
-        code,
-        whole: MARK_LENGTH + (code + samples_length(edition.width, dimension)),
+        dim: head.dim,
+        code: head.length,
+        whole: MARK_LENGTH + (head.length + samples_length(edition.width, head.dim)),
     }
 }
 
-// The state before the first record: at the first root of the dimension that the record names.
-fn opened(edition: Edition, sheet: &[u8]) -> State
+// The state before the first record: at the first root of the dimension that the record names. Or why there is no such record.
+#[tactic(auto, using(crate::specs::StepLaws::open_unmarked))]
+fn opened(edition: Edition, sheet: &[u8]) -> Result<State, Refusal>
     ensures { OpenIs (mark_of edition) sheet.now result }
 {
-    let none = State {
-        offset: 0,
-        records: 0,
-        dimension: 0,
-        root: 0,
-        next: next::first(Dim::Two, 0),
+    if sheet.is_empty() {
+        return Err(Refusal::Leaf);
+    }
+    let Some(rest) = behind_mark(edition, sheet) else {
+        return Err(Refusal::Record);
     };
-    if !is_marked(edition, sheet) {
-        return none;
-    }
-    let head = codes::code_head(&sheet[MARK_LENGTH..]);
-    if head.refusal != DONE {
-        return none;
-    }
-    let dimension = head.dimension;
-    let next = next::first(Dim::checked(dimension), 0);
-    State {
+    let dim = codes::code_head(rest)?.dim;
+    Ok(State {
         offset: 0,
         records: 0,
-        dimension,
+        dim,
         root: 0,
-        next,
-    }
+        next: next::first(dim, 0),
+    })
 }
 
-// Whether the bytes begin with the record of the next leaf: what its code matches, of length 0 where they do not.
-fn fits(edition: Edition, state: State, bytes: &[u8]) -> Match
-    requires { Known state }
+// What the code matches, where the bytes begin with the record of the next leaf.
+fn fits(edition: Edition, state: State, bytes: &[u8]) -> Option<Match>
     ensures { FitsIs (mark_of edition) edition.width state bytes.now result }
 {
-    let none = Match {
-        length: 0,
-        depth: 0,
-        boxes: 0,
-    };
-    if state.dimension == 0 {
-        return none;
+    if state.root == state.dim.roots() {
+        return None;
     }
-    if !is_marked(edition, bytes) {
-        return none;
+    let rest = behind_mark(edition, bytes)?;
+    let code = next::matches(state.next, state.dim, rest)?;
+    if rest.len() < code.length + samples_length(edition.width, state.dim) {
+        return None;
     }
-    let dim = Dim::checked(state.dimension);
-    if state.root == dim.roots() {
-        return none;
-    }
-    let rest = &bytes[MARK_LENGTH..];
-    let code = next::matches(state.next, dim, rest);
-    if code.length == 0 {
-        return none;
-    }
-    if rest.len() < code.length + samples_length(edition.width, state.dimension) {
-        return none;
-    }
-    code
+    Some(code)
 }
 
 // The state after a record that fits: the next cell is the one after its leaf, or the next root.
@@ -199,72 +185,51 @@ fn moved(edition: Edition, state: State, found: Match) -> State
     requires { MoveReady edition.width state found }
     ensures { MoveIs edition.width state found result }
 {
-    let dimension = state.dimension;
-    let dim = Dim::checked(dimension);
-    let samples = samples_length(edition.width, dimension);
+    let dim = state.dim;
+    let samples = samples_length(edition.width, dim);
     let offset = state.offset + (MARK_LENGTH + (found.length + samples));
     let records = state.records + 1;
-    let onward = next::after(state.next, dim, found.depth, found.boxes);
-    if onward.more {
-        let next = onward.next;
-        return State {
+    match next::after(state.next, dim, found.depth, found.boxes) {
+        Some(next) => State {
             offset,
             records,
-            dimension,
-            root: state.root,
             next,
-        };
-    }
-    let root = state.root + 1;
-    let next = next::first(dim, root);
-    State {
-        offset,
-        records,
-        dimension,
-        root,
-        next,
-    }
-}
-
-// A refusal of the record at an offset.
-fn refused(refusal: u8, offset: usize) -> SheetAnswer
-    ensures { (result.refusal ≡ refusal) × (result.offset ≡ offset) × (result.records ≡ 0) }
-{
-    SheetAnswer {
-        refusal,
-        offset,
-        records: 0,
+            ..state
+        },
+        None => {
+            let root = state.root + 1;
+            State {
+                offset,
+                records,
+                root,
+                next: next::first(dim, root),
+                ..state
+            }
+        }
     }
 }
 
 // The number of records of a good sheet, or the first refusal in reading order.
-pub fn sheet_check(sheet: &[u8]) -> SheetAnswer
-    ensures { SheetIs sheet.now result }
+pub fn sheet_check(sheet: &[u8]) -> Result<usize, Refused>
+    ensures { SheetIs sheet.now (sheet_answer result) }
 {
     let edition = first_edition();
-    let mut state = opened(edition, sheet);
+    let mut state = opened(edition, sheet)?;
+    // a `while`: how far a step goes is the record's own length
     while state.offset < sheet.len() {
         let offset = state.offset;
         let bytes = &sheet[offset..];
-        let found = fits(edition, state, bytes);
-        if found.length == 0 {
-            let refusal = record_refusal(edition, bytes);
-            if refusal != DONE {
-                return refused(refusal, offset);
-            }
-            return refused(REFUSED_LEAF, offset);
-        }
+        let Some(found) = fits(edition, state, bytes) else {
+            let refusal = record_check(edition, bytes).err().unwrap_or(Refusal::Leaf);
+            return Err(Refused { refusal, offset });
+        };
         state = moved(edition, state, found);
     }
-    if state.dimension == 0 {
-        return refused(REFUSED_LEAF, state.offset);
+    if state.root != state.dim.roots() {
+        return Err(Refused {
+            refusal: Refusal::Leaf,
+            offset: state.offset,
+        });
     }
-    if state.root != Dim::checked(state.dimension).roots() {
-        return refused(REFUSED_LEAF, state.offset);
-    }
-    SheetAnswer {
-        refusal: DONE,
-        offset: 0,
-        records: state.records,
-    }
+    Ok(state.records)
 }

@@ -31,12 +31,10 @@ use Rattle.slopes.specs.declared.Slopes.{Slopes}
 use Rattle.slopes.specs.Slopes.{Components}
 use Rattle.slopes.specs.Along.{rising_by, falling_by}
 
--- a cell's code, and room for a sample at each of its vertices
-pub record SlopesReady (code : List ℕ) (width : ℕ) (samples : List ℕ) : Type 0 where
-  pub root : List ℕ
-  pub path : List ℕ
-  pub of : IsCodeOf code root path
-  pub room : width * suc (length root) ≤ length samples
+-- a code that passes, and a sample at each of its cell's vertices
+pub record Sampling (code : List ℕ) (width : ℕ) (samples : List ℕ) : Type 0 where
+  pub passes : code_refusal code ≡ done
+  pub room : width * suc (dimension_of code) ≤ length samples
   pub narrow : width ≤ 3
 
 -- the slopes in the cell of a root and a path with these samples
@@ -58,7 +56,7 @@ abbrev place_in : List ℕ → ℕ → ℕ
 place_in code t = axis (get_or (entries_of code) t 0) - 1
 
 pub record Gathering (code : List ℕ) (width : ℕ) (samples : List ℕ) (d side entries split first : ℕ) (on : List Float) (before i : ℕ) : Type 0 where
-  pub ready : SlopesReady code width samples
+  pub ready : Sampling code width samples
   pub axes : d ≡ dimension_of code
   pub frame : Frame code (lows_in (orthants_of code)) side entries split
   pub few : i ≤ d
@@ -70,30 +68,24 @@ pub record Gathering (code : List ℕ) (width : ℕ) (samples : List ℕ) (d sid
 
 -- ---- what the functions that are asked require
 
-module _ {code : List ℕ} {width : ℕ} {samples : List ℕ} (r : SlopesReady code width samples) where
-  pub ready_passes : code_refusal code ≡ done
-  ready_passes = rw r.of.is (code_passes r.root r.path r.of.good_root r.of.good_path)
-
-  ready_axes : dimension_of code ≡ length r.root
-  ready_axes = ap dimension_of r.of.is ∙ dimension_of_code r.root r.path
-
+module _ {code : List ℕ} {width : ℕ} {samples : List ℕ} (r : Sampling code width samples) where
   -- the sample at a vertex is there
   pub ready_sample : {j : ℕ} → j ≤ dimension_of code → (width ≤ 3) × (width * suc j ≤ length samples)
-  ready_sample {j} l = (r.narrow, omega (arith, r.room, mul-le-mul_left {m = suc j} {n = suc (length r.root)} width (omega (arith, ready_axes))))
+  ready_sample {j} l = (r.narrow, omega (arith, r.room, mul-le-mul_left {m = suc j} {n = suc (dimension_of code)} width (omega arith)))
 
   pub ready_power : Power (box_side (dimension_of code) (depth_of code))
-  ready_power = let k = checked code ready_passes in box_power (dimension_of code) (depth_of code) (omega (arith, k.range.two)) k.good.depth
+  ready_power = let k = checked code r.passes in box_power (dimension_of code) (depth_of code) (omega (arith, k.range.two)) k.good.depth
 
 -- ---- the walk
 
 module _ {code : List ℕ} {width : ℕ} {samples : List ℕ} {d side entries split : ℕ} where
-  pub gather_start : {first : ℕ} → SlopesReady code width samples → d ≡ dimension_of code → side ≡ box_side (dimension_of code) (depth_of code)
+  pub gather_start : {first : ℕ} → Sampling code width samples → d ≡ dimension_of code → side ≡ box_side (dimension_of code) (depth_of code)
       → bytes_of entries ≡ paste no_entries 0 (drop 2 code) d → split ≡ split_place d (depth_of code) → Sampled width samples 0 first
       → Gathering code width samples d side entries split first (plus_zero ∷ plus_zero ∷ plus_zero ∷ plus_zero ∷ []) first 0
   gather_start r e f g h s = record {
     ready = r;
     axes = e;
-    frame = frame_made code (ready_passes r) e refl f g h;
+    frame = frame_made code r.passes e refl f g h;
     few = omega arith;
     size = refl;
     first_is = s;

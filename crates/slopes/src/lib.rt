@@ -2,15 +2,16 @@
 // difference of samples over the box's side, and the entry's axis and sign say where it goes.
 #![tactic(auto)]
 
-ghost use Rattle.std.specs.Prelude.{◌≡◌, ◌-◌, ◌^◌, ◌≤◌, ◌<◌};
-ghost use Rattle.bisection.specs.Codes.{axis, minus};
+ghost use Rattle.std.specs.Prelude.{◌≡◌, suc, ◌-◌, ◌*◌, ◌^◌, ◌≤◌, ◌<◌, length};
+ghost use Rattle.bisection.specs.Codes.{axis, minus, dimension_of};
 ghost use Rattle.bisection.specs.Theorems.Slopes.One.{by_sign};
 ghost use Rattle.greys.specs.Fractions.{Quotient, Power};
 ghost use Rattle.slopes.specs.Slopes.{flat_of};
 ghost use Rattle.slopes.specs.Along.{rising_by, falling_by};
-ghost use Rattle.slopes.specs.Gathering.{SlopesReady, SlopesOf};
+ghost use Rattle.slopes.specs.Gathering.{SlopesOf};
 
-use bisection::DONE;
+use bisection::{DONE, Refused};
+use entries::code::Code;
 use entries::{check, words};
 
 // The slope on each axis; +0.0 on an axis that the dimension has not.
@@ -23,14 +24,7 @@ pub struct Slopes {
     pub fourth: f64,
 }
 
-// The answer of a slope query: the slopes, or a refusal and its offset.
-#[derive(Clone, Copy)]
-pub enum Slope {
-    Along(Slopes),
-    Refused { number: u8, offset: usize },
-}
-
-// The same for a C program.
+// The answer of a slope query, for a C program: the slopes, or a refusal and its offset.
 #[repr(C)]
 #[derive(Clone, Copy)]
 pub struct SlopeAnswer {
@@ -39,26 +33,28 @@ pub struct SlopeAnswer {
     pub slopes: Slopes,
 }
 
-// The number, the offset and the slopes of each case.
-pub fn flat(s: Slope) -> SlopeAnswer
-    ensures { result ≡ flat_of s }
-{
-    match s {
-        Slope::Along(slopes) => SlopeAnswer {
-            refusal: DONE,
-            offset: 0,
-            slopes,
-        },
-        Slope::Refused { number, offset } => SlopeAnswer {
-            refusal: number,
-            offset,
-            slopes: Slopes {
-                first: 0.0,
-                second: 0.0,
-                third: 0.0,
-                fourth: 0.0,
+// A refusal's slopes are +0.0.
+impl From<Result<Slopes, Refused>> for SlopeAnswer {
+    ghost from_gives = { λ slope answer. answer ≡ flat_of slope };
+
+    fn from(slope: Result<Slopes, Refused>) -> SlopeAnswer {
+        match slope {
+            Ok(slopes) => SlopeAnswer {
+                refusal: DONE,
+                offset: 0,
+                slopes,
             },
-        },
+            Err(refused) => SlopeAnswer {
+                refusal: refused.refusal.into(),
+                offset: refused.offset,
+                slopes: Slopes {
+                    first: 0.0,
+                    second: 0.0,
+                    third: 0.0,
+                    fourth: 0.0,
+                },
+            },
+        }
     }
 }
 
@@ -111,30 +107,27 @@ fn place(e: u8) -> usize
     requires { 1 ≤ axis e }
     ensures { result ≡ axis e - 1 }
 {
-    common::size(entries::axis_of(e)) - 1
+    usize::from(entries::axis_of(e)) - 1
 }
 
 // The slopes in the cell of a code, with the samples at its vertices, of a width in bytes each.
-pub fn in_cell(code: &[u8], samples: &[u8], width: u8) -> Slopes
-    requires { SlopesReady code.now width samples.now }
+pub fn in_cell(code: &Code, samples: &[u8], width: u8) -> Slopes
+    requires { (width * suc (dimension_of code.now) ≤ length samples.now) × (width ≤ 3) }
     ensures { SlopesOf code.now width samples.now result }
 {
-    let d = check::axes_of(code);
-    let side = corners::side_of(code, d);
-    let entries = fours::words::word_in(code, d);
-    let split = check::split_of(code, d);
-    let bytes = common::size(width);
+    let d = code.axes();
+    let side = corners::side_of(code);
+    let entries = fours::words::word_in(code.bytes(), d);
+    let split = check::split_of(code.bytes(), d);
+    let bytes = usize::from(width);
     let first = greys::sample(samples, bytes, 0);
     let mut on: [f64; 4] = [0.0; 4];
     let mut before = first;
-    let mut i: usize = 0;
-    while i < d {
+    for i in 0..d {
         let next = greys::sample(samples, bytes, i + 1);
         let e = words::byte_at(entries, i);
-        let a = place(e);
-        on[a] = along(e, i, split, first, before, next, side);
+        on[place(e)] = along(e, i, split, first, before, next, side);
         before = next;
-        i += 1;
     }
     Slopes {
         first: on[0],

@@ -28,6 +28,11 @@ pub record PathStands (code : List ℕ) (d D : ℕ) (root path root' path' : Lis
   pub root_written : root' ≡ root_of code ++ drop d root
   pub path_written : path' ≡ path_of code ++ drop D path
 
+-- as a code that passes is read: the bytes that are lent, the dimension and the depth
+pub path_from : {code bytes root path : List ℕ} {d D : ℕ} → bytes ≡ code → code_refusal code ≡ done → d ≡ dimension_of code → D ≡ depth_of code
+    → (dimension_of code ≤ length root) × (depth_of code ≤ length path) → PathReady bytes d D root path
+path_from b p ax dp room = rw (b, ax, dp) (record { passes = p; axes = refl; depth = refl; root_room = room.0; path_room = room.1 })
+
 -- the way up from the entries of a code that passes
 module _ (code : List ℕ) {d D : ℕ} (p : code_refusal code ≡ done) (ax : d ≡ dimension_of code) (dp : D ≡ depth_of code) {from : Four} (f : four from ≡ paste no_entries 0 (drop 2 code) d) where
   range : (2 ≤ d) × (d ≤ 4) × (2 + d ≤ length code)

@@ -4,7 +4,6 @@ use Rattle.std.proofs.Common.{sym, ap, ◌∙◌, arith, length-append, length-t
 use Rattle.std.proofs.Math.Decide.{dec_lt}
 use Rattle.std.proofs.Math.ListN.{get_or-append}
 use Rattle.entries.specs.Walks.{place_in, place_under, place_past}
-use Rattle.entries.specs.Words.{bytes_of, WordAt, word_byte, Puts}
 
 -- four bytes from a place on are copied, and the others stay
 pub record CopiesFour (at : ℕ) (src dst r : List ℕ) : Type 0 where
@@ -12,16 +11,6 @@ pub record CopiesFour (at : ℕ) (src dst r : List ℕ) : Type 0 where
   pub before : (j : ℕ) → j < at → get_or r j 0 ≡ get_or dst j 0
   pub copied : (j : ℕ) → at ≤ j → j < at + 4 → get_or r j 0 ≡ get_or src j 0
   pub past : (j : ℕ) → at + 4 ≤ j → get_or r j 0 ≡ get_or dst j 0
-
--- as the code copies them, as one word
-pub copies_four : {at w : ℕ} {src dst r : List ℕ} → WordAt src at w → Puts at (bytes_of w) dst r → CopiesFour at src dst r
-copies_four {at} {w} {src} {dst} {r} read p = record { size = p.size; before = p.before; copied = copied; past = p.past }
-  where
-    copied : (j : ℕ) → at ≤ j → j < at + 4 → get_or r j 0 ≡ get_or src j 0
-    copied j l u = ap (λ (x : ℕ). get_or r x 0) there ∙ p.put (j - at) (omega arith) ∙ word_byte read j l u
-      where
-        there : j ≡ at + (j - at)
-        there = omega arith
 
 -- the copy under way: the places before i are copied
 pub record Copying (code out : List ℕ) (i : ℕ) (buf : List ℕ) : Type 0 where

@@ -32,6 +32,15 @@ pub record ParentReady (code : List ℕ) (d D : ℕ) (out : List ℕ) : Type 0 w
   pub depth : suc D ≡ depth_of code
   pub room : code_length d D ≤ length out
 
+-- as a code that passes is read: the bytes that are lent, the dimension and the depth
+pub child_from : {code bytes out : List ℕ} {d D : ℕ} → bytes ≡ code → code_refusal code ≡ done → d ≡ dimension_of code → D ≡ depth_of code
+    → code_length (dimension_of code) (suc (depth_of code)) ≤ length out → ChildReady bytes d D out
+child_from b p ax dp room = rw (b, ax, dp) (record { passes = p; axes = refl; depth = refl; room = room })
+
+pub parent_from : {code bytes out : List ℕ} {d D : ℕ} → bytes ≡ code → code_refusal code ≡ done → d ≡ dimension_of code → D ≡ depth_of code
+    → (0 < depth_of code) × (code_length (dimension_of code) (depth_of code - 1) ≤ length out) → ParentReady bytes d (D - 1) out
+parent_from b p ax dp room = rw (b, ax, dp) (record { passes = p; axes = refl; depth = omega (arith, room.0); room = room.1 })
+
 pub box_grows : (d D : ℕ) → 0 < d → box_depth d D ≤ box_depth d (suc D)
 box_grows d D d0 = ⊎_elim (λ (w : Within d D). omega (arith, w.box)) (λ (w : Turned d D). omega (arith, w.box)) (deeper d D d0)
 

@@ -1,8 +1,10 @@
 -- The laws of the steps down: the weights of a half, and that each step goes on the way.
-use Rattle.std.specs.Prelude.{◌≡◌, refl, List, [], ◌∷◌, ◌++◌, ℕ, suc, ◌+◌, ◌-◌, ◌*◌, ◌^◌, ◌≤◌, ◌<◌, length, get_or, take}
-use Rattle.std.proofs.Common.{sym, ap, ◌∙◌, subst, inl, inr, arith, add-one, pow_mono, get_or-take}
+use Rattle.std.specs.Prelude.{◌≡◌, refl, Bool, true, false, List, [], ◌∷◌, ◌++◌, ltb, ℕ, suc, ◌+◌, ◌*◌, ◌^◌, ◌≤◌, ◌<◌, length, get_or, take}
+use Rattle.std.proofs.Common.{sym, ap, ◌∙◌, subst, inl, inr, arith, pow_mono, get_or-take, lt-ltb, le-ltb}
+use Rattle.std.proofs.Math.Decide.{dec_lt}
+use Rattle.std.specs.Int.{from_bool}
 use Rattle.dimension.specs.Sizes.{cube_side, greatest_depth, split_place}
-use Rattle.dimension.specs.Laws.{Dimension, dimension, depth_small, split_range}
+use Rattle.dimension.specs.Laws.{Dimension, axes_dimension, dimension, depth_small, split_range}
 use Rattle.bisection.specs.Cells.{Point, cell_of}
 use Rattle.bisection.specs.Roots.{roots}
 use Rattle.bisection.specs.Weights.{Inside}
@@ -10,7 +12,6 @@ use Rattle.bisection.proofs.Theorems.Weights.Axes.{weight_most}
 use Rattle.positions.specs.Positions.{start_of}
 use Rattle.points.specs.Roots.{FirstRoot}
 use Rattle.points.specs.Theorems.Halving.{Fits, down}
-use Rattle.points.proofs.Theorems.Halving.{low_down_first, low_down_last, low_down_other, high_down_before, high_down_rest, high_down_last, high_down_past}
 use Rattle.points.proofs.Theorems.RootCells.{side_some}
 use Rattle.points.specs.Theorems.Cells.{CellAxes, split_of}
 use Rattle.points.proofs.Theorems.Cells.{one_longer, step_down, in_half, half_fits}
@@ -18,7 +19,7 @@ use Rattle.ways.specs.declared.Stepped.{Stepped}
 use Rattle.ways.specs.declared.Place.{Place}
 use Rattle.ways.specs.Ways.{root_at, LocatedIs, Chosen, low, high, SteppedIs, CellWeights, Reached, Begun, Descended}
 use Rattle.ways.specs.WayLaws.{WayStep, way_start, way_more, start_more}
-use Rattle.ways.specs.Starts.{axes_cell, cell_axes}
+use Rattle.ways.specs.Starts.{first_at, five, axes_cell, cell_axes}
 
 -- weights that can be doubled
 pub record StepReady (w : List ℕ) (k : ℕ) : Type 0 where
@@ -27,63 +28,38 @@ pub record StepReady (w : List ℕ) (k : ℕ) : Type 0 where
   pub first : get_or w 0 0 ≤ cube_side
   pub last : get_or w k 0 ≤ cube_side
 
-pub record HalfReady (w : List ℕ) (k step j : ℕ) : Type 0 where
+pub record HalfReady (w : List ℕ) (k : ℕ) (one : Bool) (j : ℕ) : Type 0 where
   pub ready : StepReady w k
-  pub chosen : Chosen k (λ i. get_or w i 0) step
+  pub chosen : Chosen k (λ i. get_or w i 0) one
   pub place : j ≤ 4
 
--- the weight of a half, as the code finds it
-module _ {w : List ℕ} {k step j : ℕ} (g : HalfReady w k step j) where
-  abbrev f : ℕ → ℕ
-  f i = get_or w i 0
+-- the weight at place j of a half
+unfoldable pub half : List ℕ → ℕ → Bool → ℕ → ℕ
+half w k one j = down (from_bool one) k (λ i. get_or w i 0) j
 
-  is_high : {step : ℕ} → (step ≡ 0 → ⊥) → Chosen k (λ i. get_or w i 0) step → (step ≡ 1) × (f 0 < f k)
-  is_high n (low l) = absurd (n refl)
-  is_high n (high l) = (refl, l)
+-- the step that the comparison of the first weight with the last tells
+chosen_by : (k : ℕ) (w : ℕ → ℕ) → Chosen k w (ltb (w 0) (w k))
+chosen_by k w = go (dec_lt (w 0) (w k))
+  where
+    go : Dec (w 0 < w k) → Chosen k w (ltb (w 0) (w k))
+    go (yes l) = rw (lt-ltb (w 0) (w k) l) (high l)
+    go (no l) = rw (le-ltb (w 0) (w k) (omega arith)) (low (omega arith))
 
-  is_low : {step : ℕ} → step ≡ 0 → Chosen k (λ i. get_or w i 0) step → f k ≤ f 0
-  is_low e (low l) = l
-  is_low e (high l) = absurd (omega arith)
+pub half_ready : {w : List ℕ} {k j : ℕ} → StepReady w k → j < 5 → HalfReady w k (ltb (get_or w 0 0) (get_or w k 0)) j
+half_ready {w} {k} r l = record { ready = r; chosen = chosen_by k (λ i. get_or w i 0); place = omega arith }
 
-  module _ (e : step ≡ 0) where
-    pub low_rest : f k ≤ f 0
-    low_rest = is_low e g.chosen
+pub stepped : {w r : List ℕ} {k : ℕ} {one : Bool} (x y z u v : ℕ) → one ≡ ltb (get_or w 0 0) (get_or w k 0) → length r ≡ 5 → get_or r 0 x ≡ half w k one 0 → get_or r 1 y ≡ half w k one 1
+    → get_or r 2 z ≡ half w k one 2 → get_or r 3 u ≡ half w k one 3 → get_or r 4 v ≡ half w k one 4 → SteppedIs k w (record { one = one; weights = r })
+unfolding half
+stepped {w} {k = k} {one = one} x y z u v is l p q r s t = record { chosen = rw is (chosen_by k (λ i. get_or w i 0)); weights = five (down (from_bool one) k (λ i. get_or w i 0)) x y z u v l p q r s t }
 
-    pub low_first : j ≡ 0 → f 0 - f k ≡ down step k f j
-    low_first q = rw (e, q) (sym (low_down_first 0 k f g.ready.some))
-
-    pub low_last : j ≡ k → 2 * f k ≡ down step k f j
-    low_last q = rw (e, q) (sym (low_down_last 0 k f g.ready.some))
-
-    pub low_other : (j ≡ 0 → ⊥) → (j ≡ k → ⊥) → f j ≡ down step k f j
-    low_other q r = rw e (sym (low_down_other 0 k f j q r))
-
-  module _ (n : step ≡ 0 → ⊥) where
-    one : step ≡ 1
-    one = (is_high n g.chosen).0
-
-    pub high_rest : f 0 ≤ f k
-    high_rest = omega (arith, (is_high n g.chosen).1)
-
-    pub high_turn : j + 1 ≡ k → f k - f 0 ≡ down step k f j
-    high_turn q = rw one (sym (high_down_rest 0 k f j (omega arith)))
-
-    pub high_before : (j + 1 ≡ k → ⊥) → j < k → f (j + 1) ≡ down step k f j
-    high_before q l = rw (one, add-one) (sym (high_down_before 0 k f j (omega arith)))
-
-    pub high_last : j ≡ k → 2 * f 0 ≡ down step k f j
-    high_last q = rw one (sym (high_down_last 0 k f j q))
-
-    pub high_past : k ≤ j → (j ≡ k → ⊥) → f j ≡ down step k f j
-    high_past l q = rw one (sym (high_down_past 0 k f j (omega arith)))
-
-chosen_fits : {k step : ℕ} {w : ℕ → ℕ} → Chosen k w step → Fits step k w
+chosen_fits : {k : ℕ} {one : Bool} {w : ℕ → ℕ} → Chosen k w one → Fits (from_bool one) k w
 chosen_fits (low l) = l
 chosen_fits (high l) = omega arith
 
-chosen_bit : {k step : ℕ} {w : ℕ → ℕ} → Chosen k w step → step ≤ 1
-chosen_bit (low l) = omega arith
-chosen_bit (high l) = omega arith
+child_few : (one : Bool) → from_bool one ≤ 1
+child_few true = omega arith
+child_few false = omega arith
 
 -- one step more
 module _ {d : ℕ} {root : List ℕ} {p : Point} {i : ℕ} {r : Place} (g : Reached d root p i r) (deep : i < greatest_depth d)
@@ -100,21 +76,21 @@ module _ {d : ℕ} {root : List ℕ} {p : Point} {i : ℕ} {r : Place} (g : Reac
   axes : CellAxes root p g.way cube_side (λ j. get_or r.weights j 0)
   axes = cell_axes (omega (arith, below)) c
 
-  fits : Fits s.step (split_of root g.way) (λ j. get_or r.weights j 0)
+  fits : Fits (from_bool s.one) (split_of root g.way) (λ j. get_or r.weights j 0)
   fits = rw split at (chosen_fits t.chosen)
 
-  turns : {step : ℕ} → Chosen k (λ j. get_or r.weights j 0) step → WayStep root p g.way step
+  turns : {one : Bool} → Chosen k (λ j. get_or r.weights j 0) one → WayStep root p g.way (from_bool one)
   turns (low l) = inl refl
   turns (high l) = inr (refl, λ i. let h : get_or r.weights k 0 ≤ get_or r.weights 0 0 = rw split (half_fits root c.good c.dims g.way 0 below axes i) in omega arith)
 
-  reached_next : Reached d root p (suc i) (record { position = 2 * r.position + s.step; weights = s.weights })
+  reached_next : Reached d root p (suc i) (record { position = 2 * r.position + from_bool s.one; weights = s.weights })
   reached_next = record {
-    way = g.way ++ s.step ∷ [];
-    size = one_longer g.way s.step ∙ ap suc g.size;
-    goes = way_more g.goes s.step (in_half root c.good c.dims g.way s.step below side_some axes fits) (turns t.chosen);
-    weights = rw (t.weights, split) (axes_cell c.good c.axes c.dims (omega (arith, one_longer g.way s.step, below))
-        (step_down root c.good g.way s.step below fits axes));
-    position = rw g.position (subst (λ (n : ℕ). 2 * start_of n g.way + s.step ≡ start_of (suc n) (g.way ++ s.step ∷ [])) g.size (sym (start_more g.way s.step)));
+    way = g.way ++ from_bool s.one ∷ [];
+    size = one_longer g.way (from_bool s.one) ∙ ap suc g.size;
+    goes = way_more g.goes (from_bool s.one) (in_half root c.good c.dims g.way (from_bool s.one) below side_some axes fits) (turns t.chosen);
+    weights = rw (t.weights, split) (axes_cell c.good c.axes c.dims (omega (arith, one_longer g.way (from_bool s.one), below))
+        (step_down root c.good g.way (from_bool s.one) below fits axes));
+    position = rw g.position (subst (λ (n : ℕ). 2 * start_of n g.way + from_bool s.one ≡ start_of (suc n) (g.way ++ from_bool s.one ∷ [])) g.size (sym (start_more g.way (from_bool s.one))));
   }
 
 -- in the loop, after i steps
@@ -157,14 +133,14 @@ module _ {d n : ℕ} {w v : List ℕ} {position i : ℕ} (g : Descending d n w v
       most : (j : ℕ) → j ≤ d → get_or v j 0 ≤ cube_side
       most j l = rw (get_or-take (suc (length g.begun.root)) v j 0 (omega (arith, c.axes))) at (weight_most c.weighs j)
 
-  pub descend_next : {k : ℕ} → k ≡ split_place d i → {s : Stepped} → SteppedIs k v s → i < n → Descending d n w s.weights (2 * position + s.step) (suc i)
-  descend_next is t l = record {
+  pub descend_next : {k : ℕ} → k ≡ split_place d i → {s : Stepped} → SteppedIs k v s → i < n → {x : ℕ} → x ≡ from_bool s.one → Descending d n w s.weights (2 * position + x) (suc i)
+  descend_next is {s = s} t l e = rw e (record {
     begun = g.begun;
     deep = g.deep;
     most = l;
-    under = omega (arith, g.under, chosen_bit t.chosen);
+    under = omega (arith, g.under, child_few s.one);
     descended = record { reaches = λ c. reached_next (g.descended.reaches c) (omega (arith, g.deep)) is t };
-  }
+  })
 
   -- a position twice, and a step more, fit a word
   small : position < 2 ^ 60
@@ -173,13 +149,13 @@ module _ {d n : ℕ} {w v : List ℕ} {position i : ℕ} (g : Descending d n w v
   pub double_fits : 2 * position < 2 ^ 64
   double_fits = omega (arith, small)
 
-  pub position_fits : {k : ℕ} {s : Stepped} → SteppedIs k v s → 2 * position + s.step < 2 ^ 64
-  position_fits t = omega (arith, small, chosen_bit t.chosen)
-
-  pub descend_end : n ≤ i → Descended d n w (record { position = position; weights = v })
-  descend_end l = let e : i ≡ n = omega (arith, g.most) in rw e at g.descended
+  pub position_fits : {x : ℕ} (one : Bool) → x ≡ from_bool one → 2 * position + x < 2 ^ 64
+  position_fits one e = omega (arith, small, child_few one)
 
 -- the whole way
 pub located : {d n : ℕ} {p : Point} {w : List ℕ} {k : ℕ} {r : Place} → FirstRoot (roots d) p n → CellWeights d (root_at d n) [] p w → k ≡ greatest_depth d → Descended d k w r
     → LocatedIs d p (record { root = n; weights = w; position = r.position })
 located {d} {n} {p} {w} {k} {r} f c e h = let g = rw e at (h.reaches c) in record { first = f; weights = c; way = g.way; size = g.size; goes = g.goes; position = g.position }
+
+-- the laws that `way_to` uses
+pub ruleset whole_way = (axes_dimension, first_at, located)

@@ -1,12 +1,12 @@
 -- The laws of the test of a point, of the first root that contains it, and of the weights there.
-use Rattle.std.specs.Prelude.{◌≡◌, Bool, true, false, List, [], ◌∷◌, ℕ, zero, suc, ◌+◌, ◌-◌, ◌*◌, ◌≤◌, ◌<◌, T, length, get_or, take}
+use Rattle.std.specs.Prelude.{◌≡◌, Bool, true, false, List, [], ◌∷◌, ◌⊎◌, leb, ℕ, zero, suc, ◌+◌, ◌-◌, ◌*◌, ◌≤◌, ◌<◌, T, length, get_or, take}
 use Rattle.std.proofs.Math.Path.{refl}
-use Rattle.std.proofs.Common.{sym, ap, ◌∙◌, subst, add-one, get_or-take, length-take-le}
+use Rattle.std.proofs.Common.{sym, ap, ◌∙◌, subst, inl, inr, add-one, get_or-take, length-take-le}
 use native.Mathlib.Omega.{arith}
-use Rattle.std.proofs.Math.Decide.{dec_lt, ℕ_discrete}
+use Rattle.std.proofs.Math.Decide.{dec_lt, dec_le}
 use borrow.Author.Tests.{eq-eqb, ne_eqb, le-leb, lt-leb}
-use Rattle.dimension.specs.Sizes.{is_dimension, cube_side, box_side, greatest_depth}
-use Rattle.dimension.specs.Laws.{dimension, at_root, side_first}
+use Rattle.dimension.specs.Sizes.{is_dimension, root_count, cube_side, box_side, greatest_depth}
+use Rattle.dimension.specs.Laws.{dimension, axes_range, at_root, side_first}
 use Rattle.bisection.specs.Cells.{Point, coordinate, cell_of}
 use Rattle.bisection.specs.Roots.{GoodRoot, roots}
 use Rattle.bisection.specs.Weights.{Inside}
@@ -15,7 +15,7 @@ use Rattle.bisection.proofs.Theorems.CodePaths.{some_axes}
 use Rattle.bisection.proofs.Theorems.Geometry.{closed_form}
 use Rattle.bisection.specs.Theorems.Weights.Axes.{list_of}
 use Rattle.bisection.proofs.Theorems.Weights.Axes.{axes_same, list_length, list_at, weighs_axes, axes_weighs}
-use Rattle.positions.specs.RootNumbers.{roots_count, roots_good, roots_length, roots_few}
+use Rattle.positions.specs.RootNumbers.{roots_count, roots_good, roots_length}
 use Rattle.points.specs.Points.{point_of, is_point, InCube}
 use Rattle.points.specs.Roots.{FirstRoot}
 use Rattle.points.specs.Theorems.RootCells.{Falls, height, root_weight}
@@ -24,7 +24,7 @@ use Rattle.points.specs.Theorems.Cells.{CellAxes}
 use Rattle.points.specs.Theorems.CubePoints.{in_range}
 use Rattle.points.proofs.Theorems.CubePoints.{point_bytes, point_in_cube}
 use Rattle.ways.specs.Ways.{root_at, AtRoot, RootHolds, CellWeights}
-use Rattle.ways.specs.InRoot.{some_root, none_next}
+use Rattle.ways.specs.InRoot.{some_root}
 
 pub first_side : (d : ℕ) → is_dimension d ≡ true → box_side d 0 ≡ cube_side
 unfolding box_side
@@ -35,9 +35,6 @@ pub record Testing (d : ℕ) (point : List ℕ) (i : ℕ) : Type 0 where
   pub most : i ≤ d
   pub size : length point ≡ 2 * d
   pub tested : (j : ℕ) → j < i → in_range point j ≡ true
-
-pub test_start : {d : ℕ} {point : List ℕ} → length point ≡ 2 * d → Testing d point 0
-test_start e = record { most = omega arith; size = e; tested = λ j l. absurd (omega arith) }
 
 -- the law of each way out, where the code has the dimension's axes in a local
 module _ {axes d : ℕ} (is : axes ≡ d) (point : List ℕ) where
@@ -55,17 +52,16 @@ module _ {axes d : ℕ} (is : axes ≡ d) (point : List ℕ) where
     unfolding is_point
     test_end l = rw (← is, eq-eqb (length point) (2 * axes) t.size) (sym (at_each axes (in_range point) (λ j h. t.tested j (omega arith))))
 
-pub test_next : {d : ℕ} {point : List ℕ} {i most x : ℕ} → Testing d point i → i < d → most ≡ cube_side → x ≡ coordinate (point_of point) (i + 1) → x ≤ most → Testing d point (suc i)
-test_next {d} {point} {i} t l u v h = record { most = l; size = t.size; tested = λ j m. go j (ℕ_discrete j i) m }
-  where
-    go : (j : ℕ) → Dec (j ≡ i) → j < suc i → in_range point j ≡ true
-    go j (yes e) m = let q : i + 1 - 1 ≡ i = omega arith in rw e (le-leb (get_or (point_of point) i 0) cube_side (rw (u, v, q) at h))
-    go j (no e) m = t.tested j (omega arith)
-
--- ---- five numbers, of which the first are weights
-pub five : (f : ℕ → ℕ) {a b c e g : ℕ} → a ≡ f 0 → b ≡ f 1 → c ≡ f 2 → e ≡ f 3 → g ≡ f 4 → a ∷ b ∷ c ∷ e ∷ g ∷ [] ≡ list_of 5 f
+-- ---- five numbers, of which the first are weights: each read at some default, as `from_fn` tells them
+pub five : (f : ℕ → ℕ) {w : List ℕ} (a b c e g : ℕ) → length w ≡ 5 → get_or w 0 a ≡ f 0 → get_or w 1 b ≡ f 1 → get_or w 2 c ≡ f 2 → get_or w 3 e ≡ f 3 → get_or w 4 g ≡ f 4 → w ≡ list_of 5 f
 unfolding list_of
-five f p q r s t = rw (p, q, r, s, t) refl
+five f {w = []} a b c e g l p q r s t = absurd (omega arith)
+five f {w = x₀ ∷ []} a b c e g l p q r s t = absurd (omega arith)
+five f {w = x₀ ∷ x₁ ∷ []} a b c e g l p q r s t = absurd (omega arith)
+five f {w = x₀ ∷ x₁ ∷ x₂ ∷ []} a b c e g l p q r s t = absurd (omega arith)
+five f {w = x₀ ∷ x₁ ∷ x₂ ∷ x₃ ∷ []} a b c e g l p q r s t = absurd (omega arith)
+five f {w = x₀ ∷ x₁ ∷ x₂ ∷ x₃ ∷ x₄ ∷ []} a b c e g l p q r s t = rw (p, q, r, s, t) refl
+five f {w = x₀ ∷ x₁ ∷ x₂ ∷ x₃ ∷ x₄ ∷ x₅ ∷ w} a b c e g l p q r s t = absurd (omega arith)
 
 module _ {d : ℕ} {root path : List ℕ} {p : Point} where
   pub axes_cell : GoodRoot root → length root ≡ d → length p ≡ length root → length path ≤ greatest_depth (length root) → {w : ℕ → ℕ}
@@ -134,9 +130,6 @@ module _ {d : ℕ} {point : List ℕ} {n : ℕ} (r : AtRoot d point n) where
     pub weight_sub : y ≤ x
     weight_sub = omega (arith, falls_in i j, ap (height (point_of point) (root_at d n)) (add-one j))
 
-    pub weight_is : x - y ≡ root_weight (point_of point) (root_at d n) j
-    weight_is = rw (e, f, add-one j) refl
-
   pub holds_not : {x y : ℕ} (j : ℕ) → x ≡ height (point_of point) (root_at d n) j → y ≡ height (point_of point) (root_at d n) (suc j) → x < y → RootHolds d point n false
   holds_not j p q l = record { inside = λ e. absurd (subst T (sym e) tt); outside = λ e i. omega (arith, falls_in i j) }
 
@@ -157,9 +150,28 @@ module _ {d : ℕ} {point : List ℕ} {n : ℕ} (r : AtRoot d point n) where
       f = falls_by (coordinate (point_of point)) cube_side (root_at d n) (λ l. cube.in_range (get_or (root_at d n) 0 0) (entry_low 0 (omega (arith, axes))) (entry_high 0 (omega (arith, axes))))
           (λ j l. omega (arith, some j (omega arith), some (suc j) l, next j (omega (arith, axes, (dimension d r.dimension).few))))
 
+  -- the last test, where those before it are passed
+  pub holds_last : {x y z u : ℕ} → x ≡ height (point_of point) (root_at d n) 1 → y ≡ height (point_of point) (root_at d n) 2 → z ≡ height (point_of point) (root_at d n) 3
+      → u ≡ height (point_of point) (root_at d n) 4 → y ≤ x → z ≤ y → RootHolds d point n (leb u z)
+  holds_last {z = z} {u = u} hx hy hz hu a b = go (dec_le u z)
+    where
+      go : Dec (u ≤ z) → RootHolds d point n (leb u z)
+      go (yes l) = rw (le-leb u z l) (holds_all hx hy hz hu a b l)
+      go (no l) = rw (lt-leb u z (omega arith)) (holds_not 3 hz hu (omega arith))
+
+  -- a test before it fails
+  pub holds_fails : {x y z : ℕ} → x ≡ height (point_of point) (root_at d n) 1 → y ≡ height (point_of point) (root_at d n) 2 → z ≡ height (point_of point) (root_at d n) 3
+      → ((y ≤ x) × (y < z)) ⊎ (x < y) → {b : Bool} → b ≡ false → RootHolds d point n b
+  holds_fails hx hy hz (inl l) e = rw e (holds_not 2 hy hz l.1)
+  holds_fails hx hy hz (inr l) e = rw e (holds_not 1 hx hy l)
+
   -- and then its falls are the weights there
-  pub started : Inside (cell_of (root_at d n) []) (point_of point) → {w : List ℕ} → w ≡ list_of 5 (root_weight (point_of point) (root_at d n)) → CellWeights d (root_at d n) [] (point_of point) w
-  started i e = rw e (axes_cell good axes dims (omega arith) (falls_axes (root_at d n) good (point_of point) dims (inside_falls (root_at d n) good (point_of point) dims i)))
+  abbrev weight : ℕ → ℕ
+  weight j = root_weight (point_of point) (root_at d n) j
+
+  pub started : Inside (cell_of (root_at d n) []) (point_of point) → {w : List ℕ} (x y z u v : ℕ) → length w ≡ 5 → get_or w 0 x ≡ weight 0 → get_or w 1 y ≡ weight 1 → get_or w 2 z ≡ weight 2
+      → get_or w 3 u ≡ weight 3 → get_or w 4 v ≡ weight 4 → CellWeights d (root_at d n) [] (point_of point) w
+  started i x y z u v l p q r s t = rw (five weight x y z u v l p q r s t) (axes_cell good axes dims (omega arith) (falls_axes (root_at d n) good (point_of point) dims (inside_falls (root_at d n) good (point_of point) dims i)))
 
 -- ---- the search for the first root
 pub record Searching (d : ℕ) (point : List ℕ) (n : ℕ) : Type 0 where
@@ -181,14 +193,14 @@ module _ {d : ℕ} {point : List ℕ} {n : ℕ} (s : Searching d point n) where
   pub at_root_n : AtRoot d point n
   at_root_n = record { dimension = s.dimension; good = s.good; small = subst (λ (m : ℕ). n < m) (roots_count d) left }
 
-  pub search_few : n < 24
-  search_few = omega (arith, left, roots_few d s.dimension)
+  pub search_small : {count : ℕ} → count ≡ root_count d → count ≤ n → ⊥
+  search_small e l = omega (arith, e, at_root_n.small)
 
   pub search_end : {b : Bool} → RootHolds d point n b → b ≡ true → FirstRoot (roots d) (point_of point) n
   search_end h e = record { small = left; inside = h.inside e; none_before = s.none_before }
 
-  pub search_next : {b : Bool} → RootHolds d point n b → b ≡ false → Searching d point (suc n)
-  search_next h e = record { dimension = s.dimension; good = s.good; none_before = none_next s.none_before (h.outside e) }
-
 pub first_at : {d : ℕ} {point : List ℕ} {n : ℕ} → is_dimension d ≡ true → is_point d point ≡ true → FirstRoot (roots d) (point_of point) n → AtRoot d point n
 first_at {d} {n = n} e g f = record { dimension = e; good = g; small = subst (λ (m : ℕ). n < m) (roots_count d) f.small }
+
+-- the laws that `Placed::height` uses
+pub ruleset heights = (axes_range, height_first, height_none, height_entry, entry_axis)

@@ -1,6 +1,7 @@
 -- The way down to a point, and what the functions answer that go it. A reader need not believe any of it: what a query answers is
 -- said over closed cells, weights and tree order alone.
 use Rattle.std.specs.Prelude.{◌≡◌, Bool, true, false, List, [], ◌∷◌, ◌++◌, ◌⊎◌, ℕ, suc, ◌≤◌, ◌<◌, length, get_or, take}
+use Rattle.std.specs.Int.{from_bool}
 use Rattle.dimension.specs.Sizes.{is_dimension, root_count, greatest_depth, cube_side}
 use Rattle.bisection.specs.Cells.{Point, cell_of}
 use Rattle.bisection.specs.Roots.{GoodRoot, roots}
@@ -33,15 +34,15 @@ pub record RootHolds (d : ℕ) (point : List ℕ) (n : ℕ) (r : Bool) : Type 0 
   pub inside : r ≡ true → Inside (cell_of (root_at d n) []) (point_of point)
   pub outside : r ≡ false → Inside (cell_of (root_at d n) []) (point_of point) → ⊥
 
--- the step that weights choose at split place k: to child 0 where the last is no larger than the first
-pub data Chosen (k : ℕ) (w : ℕ → ℕ) : ℕ → Type 0 where
-  low : w k ≤ w 0 → Chosen k w 0
-  high : w 0 < w k → Chosen k w 1
+-- the child that weights choose at split place k: child 0 where the last is no larger than the first, and child 1 otherwise
+pub data Chosen (k : ℕ) (w : ℕ → ℕ) : Bool → Type 0 where
+  low : w k ≤ w 0 → Chosen k w false
+  high : w 0 < w k → Chosen k w true
 
 -- and the weights in that half
 pub record SteppedIs (k : ℕ) (w : List ℕ) (r : Stepped) : Type 0 where
-  pub chosen : Chosen k (λ j. get_or w j 0) r.step
-  pub weights : r.weights ≡ list_of 5 (down r.step k (λ j. get_or w j 0))
+  pub chosen : Chosen k (λ j. get_or w j 0) r.one
+  pub weights : r.weights ≡ list_of 5 (down (from_bool r.one) k (λ j. get_or w j 0))
 
 -- numbers that begin with a point's weights in a cell, of the cube's side as their sum
 pub record CellWeights (d : ℕ) (root path : List ℕ) (p : Point) (w : List ℕ) : Type 0 where

@@ -10,17 +10,16 @@ ghost use Rattle.bisection.specs.Weights.{Inside};
 ghost use Rattle.points.specs.Points.{point_of, is_point};
 ghost use Rattle.points.specs.Roots.{FirstRoot};
 ghost use Rattle.points.specs.Theorems.RootCells.{height, root_weight};
-ghost use Rattle.points.specs.Theorems.Halving.{down};
-ghost use Rattle.ways.specs.Ways.{root_at, AtRoot, RootHolds, CellWeights, Chosen, SteppedIs, Begun, Descended, LocatedIs};
-ghost use Rattle.ways.specs.Descents.{HalfReady, StepReady};
+ghost use Rattle.ways.specs.Ways.{root_at, AtRoot, RootHolds, CellWeights, SteppedIs, Begun, Descended, LocatedIs};
+ghost use Rattle.ways.specs.Descents.{HalfReady, StepReady, half};
 
 use dimension::Dim;
 use positions::roots;
 
-// A step: to child 0 or to child 1, and the weights there.
+// A step: to child 1 where `one` holds, and to child 0 otherwise; and the weights there.
 #[derive(Clone, Copy)]
 pub struct Stepped {
-    pub step: u64,
+    pub one: bool,
     pub weights: [u64; 5],
 }
 
@@ -40,19 +39,21 @@ pub struct Located {
 }
 
 // The side of the cube.
+#[tactic(auto, using(dimension::specs::Laws::axes_dimension, crate::specs::Starts::first_side))]
 fn side(dim: Dim) -> u64
     ensures { result ≡ cube_side }
 {
-    dim.box_side(0) as u64
+    u64::from(dim.box_side(0))
 }
 
 // The coordinate of a point on an axis.
+#[tactic(auto, using(points::proofs::Theorems::CubePoints::coordinate_bytes))]
 fn coordinate_at(point: &[u8], axis: usize) -> u64
     requires { (1 ≤ axis) × (2 * axis ≤ length point.now) }
     ensures { result ≡ coordinate (point_of point.now) axis }
 {
     let at = 2 * (axis - 1);
-    positions::wide(point[at]) + 256 * positions::wide(point[at + 1])
+    u64::from(u16::from_le_bytes([point[at], point[at + 1]]))
 }
 
 // Whether bytes are a point of the cube.
@@ -64,49 +65,59 @@ pub fn is_point(point: &[u8], dim: Dim) -> bool
         return false;
     }
     let most = side(dim);
-    let mut i: usize = 0;
-    while i < axes {
+    for i in 0..axes {
         if most < coordinate_at(point, i + 1) {
             return false;
         }
-        i += 1;
     }
     true
 }
 
-// The cube's side, then the point's coordinates along root n, then 0.
-fn height_at(point: &[u8], dim: Dim, n: usize, j: usize) -> u64
-    requires { AtRoot (axes_of dim) point.now n }
-    ensures { result ≡ height (point_of point.now) (root_at (axes_of dim) n) j }
-{
-    if j == 0 {
-        return side(dim);
-    }
-    if dim.axes() < j {
-        return 0;
-    }
-    coordinate_at(point, common::size(roots::entry(dim, n, j - 1)))
+// A point of the cube before root n of its dimension.
+#[derive(Clone, Copy)]
+struct Placed<'a> {
+    point: &'a [u8],
+    dim: Dim,
+    n: usize,
+    ghost at: { AtRoot (axes_of dim) point.now n },
 }
 
-// Whether root n contains the point: its coordinates fall along the root.
-fn holds(point: &[u8], dim: Dim, n: usize) -> bool
-    requires { AtRoot (axes_of dim) point.now n }
-    ensures { RootHolds (axes_of dim) point.now n result }
-{
-    let first = height_at(point, dim, n, 1);
-    let second = height_at(point, dim, n, 2);
-    let third = height_at(point, dim, n, 3);
-    let fourth = height_at(point, dim, n, 4);
-    if first < second {
-        return false;
+impl Placed<'_> {
+    // The cube's side, then the point's coordinates along the root, then 0.
+    #[tactic(auto, using(crate::specs::Starts::heights))]
+    fn height(&self, j: usize) -> u64
+        ensures { result ≡ height (point_of self.now.point.now) (root_at (axes_of self.now.dim) self.now.n) j }
+    {
+        if j == 0 {
+            side(self.dim)
+        } else if self.dim.axes() < j {
+            0
+        } else {
+            coordinate_at(
+                self.point,
+                usize::from(roots::entry(self.dim, self.n, j - 1)),
+            )
+        }
     }
-    if second < third {
-        return false;
+
+    // Whether the root contains the point: its coordinates fall along the root.
+    fn holds(&self) -> bool
+        ensures { RootHolds (axes_of self.now.dim) self.now.point.now self.now.n result }
+    {
+        let first = self.height(1);
+        let second = self.height(2);
+        let third = self.height(3);
+        let fourth = self.height(4);
+        second <= first && third <= second && fourth <= third
     }
-    if third < fourth {
-        return false;
+
+    // The weight at place j in the root, which contains the point.
+    fn weight(&self, j: usize) -> u64
+        requires { Inside (cell_of (root_at (axes_of self.now.dim) self.now.n) []) (point_of self.now.point.now) × (j ≤ 4) }
+        ensures { result ≡ root_weight (point_of self.now.point.now) (root_at (axes_of self.now.dim) self.now.n) j }
+    {
+        self.height(j) - self.height(j + 1)
     }
-    true
 }
 
 // The number of the first root that contains the point.
@@ -114,21 +125,13 @@ pub fn first_root(point: &[u8], dim: Dim) -> usize
     requires { is_point (axes_of dim) point.now ≡ true }
     ensures { FirstRoot (roots (axes_of dim)) (point_of point.now) result }
 {
-    let mut n: usize = 0;
-    loop {
-        if holds(point, dim, n) {
+    for n in 0..dim.roots() {
+        let placed = Placed { point, dim, n };
+        if placed.holds() {
             return n;
         }
-        n += 1;
     }
-}
-
-// The weight at place j in root n.
-fn weight_at(point: &[u8], dim: Dim, n: usize, j: usize) -> u64
-    requires { AtRoot (axes_of dim) point.now n × Inside (cell_of (root_at (axes_of dim) n) []) (point_of point.now) × (j ≤ 4) }
-    ensures { result ≡ root_weight (point_of point.now) (root_at (axes_of dim) n) j }
-{
-    height_at(point, dim, n, j) - height_at(point, dim, n, j + 1)
+    unreachable!()
 }
 
 // The weights in root n, which contains the point.
@@ -136,52 +139,35 @@ pub fn start_weights(point: &[u8], dim: Dim, n: usize) -> [u64; 5]
     requires { AtRoot (axes_of dim) point.now n × Inside (cell_of (root_at (axes_of dim) n) []) (point_of point.now) }
     ensures { CellWeights (axes_of dim) (root_at (axes_of dim) n) [] (point_of point.now) result }
 {
-    [
-        weight_at(point, dim, n, 0),
-        weight_at(point, dim, n, 1),
-        weight_at(point, dim, n, 2),
-        weight_at(point, dim, n, 3),
-        weight_at(point, dim, n, 4),
-    ]
+    let placed = Placed { point, dim, n };
+    std::array::from_fn(|j| placed.weight(j))
 }
 
-// The step that weights choose.
-fn choose(w: [u64; 5], k: usize) -> u64
-    requires { k ≤ 4 }
-    ensures { Chosen k (λ j. get_or w j 0) result }
-{
-    if w[k] <= w[0] {
-        return 0;
-    }
-    1
-}
-
-// The weight at place j of the half that a step leads to.
-fn weight_below(w: [u64; 5], k: usize, step: u64, j: usize) -> u64
-    requires { HalfReady w k step j }
-    ensures { result ≡ down step k (λ i. get_or w i 0) j }
+// The weight at place j of the half that a step leads to: of child 1 where `one` holds.
+#[tactic(auto, using(dimension::specs::Laws::cube_two_bytes), unfolding(crate::specs::Descents::half, points::specs::Theorems::Halving::down))]
+fn weight_below(w: [u64; 5], k: usize, one: bool, j: usize) -> u64
+    requires { HalfReady w k one j }
+    ensures { result ≡ half w k one j }
 {
     let first = w[0];
     let last = w[k];
-    if step == 0 {
-        if j == 0 {
-            return first - last;
+    if one {
+        if j + 1 == k {
+            last - first
+        } else if j < k {
+            w[j + 1]
+        } else if j == k {
+            2 * first
+        } else {
+            w[j]
         }
-        if j == k {
-            return 2 * last;
-        }
-        return w[j];
+    } else if j == 0 {
+        first - last
+    } else if j == k {
+        2 * last
+    } else {
+        w[j]
     }
-    if j + 1 == k {
-        return last - first;
-    }
-    if j < k {
-        return w[j + 1];
-    }
-    if j == k {
-        return 2 * first;
-    }
-    w[j]
 }
 
 // One step down, from a cell with split place k.
@@ -189,16 +175,10 @@ pub fn step_down(w: [u64; 5], k: usize) -> Stepped
     requires { StepReady w k }
     ensures { SteppedIs k w result }
 {
-    let step = choose(w, k);
+    let one = w[0] < w[k];
     Stepped {
-        step,
-        weights: [
-            weight_below(w, k, step, 0),
-            weight_below(w, k, step, 1),
-            weight_below(w, k, step, 2),
-            weight_below(w, k, step, 3),
-            weight_below(w, k, step, 4),
-        ],
+        one,
+        weights: std::array::from_fn(|j| weight_below(w, k, one, j)),
     }
 }
 
@@ -208,18 +188,17 @@ pub fn descend(w: [u64; 5], dim: Dim, n: usize) -> Place
     ensures { Descended (axes_of dim) n w result }
 {
     let mut weights = w;
-    let mut position: u64 = 0;
-    let mut i: usize = 0;
-    while i < n {
+    let mut position = 0;
+    for i in 0..n {
         let s = step_down(weights, dim.split_place(i));
         weights = s.weights;
-        position = 2 * position + s.step;
-        i += 1;
+        position = 2 * position + u64::from(s.one);
     }
     Place { position, weights }
 }
 
 // The way to a point.
+#[tactic(auto, using(crate::specs::Descents::whole_way))]
 pub fn way_to(point: &[u8], dim: Dim) -> Located
     requires { is_point (axes_of dim) point.now ≡ true }
     ensures { LocatedIs (axes_of dim) (point_of point.now) result }

@@ -1,14 +1,12 @@
 -- The slopes of an answer are no NaNs, and so can be written by their bits.
-use Rattle.std.specs.Prelude.{◌≡◌, not, List, ℕ, T, ℤ, Float}
-use Rattle.std.proofs.Common.{subst, arith}
+use Rattle.std.specs.Prelude.{◌≡◌, not, List, ℕ, T, ℤ, Float, Ok}
+use Rattle.std.proofs.Common.{subst}
 use Rattle.std.specs.Float.{nan, inf, fin}
 use Rattle.std.specs.Float.Ieee.{is_nan}
 use Rattle.greys.specs.Fractions.{Quotient}
 use Rattle.sheets.specs.Sheets.{sheet_refused, sheet_good}
 use Rattle.slopes.specs.Slopes.{Components}
 use Rattle.slopes.specs.declared.Slopes.{Slopes}
-use Rattle.slopes.specs.declared.Slope.{Slope}
-use Rattle.slopes.specs.declared.Slope.TheVariants.{Along, Refused}
 use Rattle.queries.specs.SlopeQueries.{slope_refused, slope_found, SlopeIs}
 
 -- no component is a NaN
@@ -33,11 +31,8 @@ components_no_nan {x = x} c = record {
   fourth = no_nan x.fourth c.fourth;
 }
 
-along_refused : {v : Slope} {x : Slopes} {number offset : ℕ} → v ≡ Refused number offset → v ≡ Along x → ⊥
-along_refused r e = let z : ◌≡◌ {A = ℕ} 0 1 = cc in omega arith
-
 -- the slopes that the query answers
-pub slope_no_nan : {sheet point : List ℕ} {v : Slope} {x : Slopes} → SlopeIs sheet point v → v ≡ Along x → NoNan x
-slope_no_nan (sheet_refused is refused r) e = absurd (along_refused r e)
-slope_no_nan (sheet_good g (slope_refused outside r)) e = absurd (along_refused r e)
-slope_no_nan {x = x} (sheet_good g (slope_found {x = y} inside at linear c is)) e = let same : y ≡ x = cc in subst NoNan same (components_no_nan c)
+pub slope_no_nan : {sheet point : List ℕ} {x : Slopes} → SlopeIs sheet point (Ok x) → NoNan x
+slope_no_nan (sheet_refused is refused r) = absurd r
+slope_no_nan (sheet_good g (slope_refused outside r)) = absurd r
+slope_no_nan {x = x} (sheet_good g (slope_found {x = y} inside at linear c is)) = let same : y ≡ x = cc in subst NoNan same (components_no_nan c)

@@ -1,173 +1,111 @@
 // Each entry asked: what it is asked and what it answers, on one line.
 use crate::say;
-use bisection::DONE;
+use crate::say::{Code, Digits, Pairs};
 use dimension::Dim;
-use greys::Value;
-use slopes::Slope;
-use std::io::Stdout;
+use std::io;
+use std::io::Write;
 
 // The check of a code.
-pub fn checked(to: Stdout, case: &[u8], code: &[u8]) {
-    say::text(to, case);
-    say::text(to, b": code ");
-    say::hex(to, code, 2);
-    say::text(to, b": ");
-    let refusal = codes::code_check(code);
-    if refusal != DONE {
-        return say::refused(to, refusal);
+pub fn checked(rt: &impl Print, case: &str, code: &[u8]) -> io::Result<()> {
+    print!(rt; "{case}: code {}: ", Code(code))?;
+    match codes::code_check(code) {
+        Ok(()) => println!(rt; "good"),
+        Err(refusal) => say::refused(rt, refusal),
     }
-    say::text(to, b"good\n");
-}
-
-fn path_answer(to: Stdout, root: &[u8], path: &[u8]) {
-    let mut code = [0u8; Dim::LONGEST_CODE];
-    let answer = codes::path_to_code(root, path, &mut code);
-    if answer.refusal != DONE {
-        return say::refused(to, answer.refusal);
-    }
-    say::line(to, &code[..answer.length]);
 }
 
 // The code of a root and a path.
-pub fn coded(to: Stdout, case: &[u8], root: &[u8], path: &[u8]) {
-    say::text(to, case);
-    say::text(to, b": root ");
-    say::hex(to, root, 1);
-    say::text(to, b" path ");
-    say::hex(to, path, 1);
-    say::text(to, b": ");
-    path_answer(to, root, path);
-}
-
-fn child_answer(to: Stdout, code: &[u8], which: u8) {
-    let mut out = [0u8; Dim::LONGEST_CODE];
-    let answer = codes::child(code, which, &mut out);
-    if answer.refusal != DONE {
-        return say::refused(to, answer.refusal);
+pub fn coded(rt: &impl Print, case: &str, root: &[u8], path: &[u8]) -> io::Result<()> {
+    print!(rt; "{case}: root {} path {}: ", Digits(root), Digits(path))?;
+    let mut code = [0u8; Dim::LONGEST_CODE];
+    match codes::path_to_code(root, path, &mut code) {
+        Ok(length) => println!(rt; "{}", Code(&code[..length])),
+        Err(refusal) => say::refused(rt, refusal),
     }
-    say::line(to, &out[..answer.length]);
 }
 
 // A child.
-pub fn child(to: Stdout, case: &[u8], code: &[u8], which: u8) {
-    say::text(to, case);
-    say::text(to, b": child ");
-    say::number(to, common::size(which));
-    say::text(to, b" of ");
-    say::hex(to, code, 2);
-    say::text(to, b": ");
-    child_answer(to, code, which);
-}
-
-fn cross_answer(to: Stdout, code: &[u8], facet: u8) {
+pub fn child(rt: &impl Print, case: &str, code: &[u8], which: u8) -> io::Result<()> {
+    print!(rt; "{case}: child {which} of {}: ", Code(code))?;
     let mut out = [0u8; Dim::LONGEST_CODE];
-    let answer = crossing::cross(code, facet, &mut out);
-    if answer.refusal != DONE {
-        return say::refused(to, answer.refusal);
+    match codes::child(code, which, &mut out) {
+        Ok(length) => println!(rt; "{}", Code(&out[..length])),
+        Err(refusal) => say::refused(rt, refusal),
     }
-    let new = answer.vertex;
-    say::text(to, b"place ");
-    say::number(to, common::size(answer.place));
-    say::text(to, b", vertex ");
-    say::four(to, new.first, new.second, new.third, new.fourth);
-    say::text(to, b", of ");
-    say::line(to, &out[..answer.length]);
 }
 
 // Crossing a facet.
-pub fn crossed(to: Stdout, case: &[u8], code: &[u8], facet: u8) {
-    say::text(to, case);
-    say::text(to, b": ");
-    say::hex(to, code, 2);
-    say::text(to, b" across ");
-    say::number(to, common::size(facet));
-    say::text(to, b": ");
-    cross_answer(to, code, facet);
+pub fn crossed(rt: &impl Print, case: &str, code: &[u8], facet: u8) -> io::Result<()> {
+    print!(rt; "{case}: {} across {facet}: ", Code(code))?;
+    let mut out = [0u8; Dim::LONGEST_CODE];
+    match crossing::cross(code, facet, &mut out) {
+        Ok(to) => {
+            let new = to.vertex;
+            println!(rt;
+                "place {}, vertex {} {} {} {}, of {}",
+                to.place,
+                new.first,
+                new.second,
+                new.third,
+                new.fourth,
+                Code(&out[..to.length])
+            )
+        }
+        Err(refusal) => say::refused(rt, refusal),
+    }
 }
 
 // The check of a sheet.
-pub fn sheet(to: Stdout, case: &[u8], bytes: &[u8]) {
-    say::text(to, case);
-    say::text(to, b": ");
-    let answer = sheets::sheet_check(bytes);
-    if answer.refusal != DONE {
-        return say::refused_at(to, answer.refusal, answer.offset);
+pub fn sheet(rt: &impl Print, case: &str, bytes: &[u8]) -> io::Result<()> {
+    print!(rt; "{case}: ")?;
+    match sheets::sheet_check(bytes) {
+        Ok(records) => println!(rt; "records {records}"),
+        Err(refused) => say::refused_at(rt, refused),
     }
-    say::text(to, b"records ");
-    say::number(to, answer.records);
-    say::text(to, b"\n");
 }
 
 // The leaf at a point, in dimension 2, and its weights.
-pub fn leaf(to: Stdout, sheet: &[u8], point: &[u8]) {
-    say::text(to, b"leaf at");
-    say::pairs(to, point);
-    say::text(to, b": ");
+pub fn leaf(rt: &impl Print, sheet: &[u8], point: &[u8]) -> io::Result<()> {
+    print!(rt; "leaf at{}: ", Pairs(point))?;
     let mut weights = [0u8; 6];
-    let answer = queries::leaf_at(sheet, point, &mut weights);
-    if answer.refusal != DONE {
-        return say::refused(to, answer.refusal);
+    match queries::leaf_at(sheet, point, &mut weights) {
+        Ok(leaf) => println!(rt; "record {} weights{}", leaf.number, Pairs(&weights)),
+        Err(refused) => say::refused(rt, refused.refusal),
     }
-    say::text(to, b"record ");
-    say::number(to, answer.number);
-    say::text(to, b" weights");
-    say::pairs(to, &weights);
-    say::text(to, b"\n");
 }
 
-// The grey value there: the number that is named, or another.
-pub fn value(to: Stdout, sheet: &[u8], point: &[u8], named: u8) {
-    say::text(to, b"value at");
-    say::pairs(to, point);
-    say::text(to, b": ");
+// The grey value there.
+pub fn value(rt: &impl Print, sheet: &[u8], point: &[u8]) -> io::Result<()> {
+    print!(rt; "value at{}: ", Pairs(point))?;
     match queries::value_at(sheet, point) {
-        Value::Refused { number, offset: _ } => say::refused(to, number),
-        Value::Grey(x) => {
-            if x == named as f64 {
-                say::number(to, common::size(named));
-                return say::text(to, b"\n");
-            }
-            say::text(to, b"another\n");
-        }
-    }
-}
-
-fn slope_answer(to: Stdout, sheet: &[u8], point: &[u8]) {
-    match queries::slope_at(sheet, point) {
-        Slope::Refused { number, offset: _ } => say::refused(to, number),
-        Slope::Along(on) => say::slopes(to, on),
+        Ok(value) => println!(rt; "{value}"),
+        Err(refused) => say::refused(rt, refused.refusal),
     }
 }
 
 // The slope there, on each axis.
-pub fn slope(to: Stdout, case: &[u8], sheet: &[u8], point: &[u8]) {
-    say::text(to, case);
-    say::text(to, b": slope at");
-    say::pairs(to, point);
-    say::text(to, b": ");
-    slope_answer(to, sheet, point);
+pub fn slope(rt: &impl Print, case: &str, sheet: &[u8], point: &[u8]) -> io::Result<()> {
+    print!(rt; "{case}: slope at{}: ", Pairs(point))?;
+    match queries::slope_at(sheet, point) {
+        Ok(on) => say::slopes(rt, on),
+        Err(refused) => say::refused(rt, refused.refusal),
+    }
 }
 
 // Whether a sheet is compatible.
-pub fn compatible(to: Stdout, case: &[u8], bytes: &[u8]) {
-    say::text(to, case);
-    say::text(to, b": ");
-    let answer = compatible::compatible(bytes);
-    if answer.refusal != DONE {
-        return say::refused_at(to, answer.refusal, answer.offset);
+pub fn compatible(rt: &impl Print, case: &str, bytes: &[u8]) -> io::Result<()> {
+    print!(rt; "{case}: ")?;
+    match compatible::compatible(bytes) {
+        Ok(true) => println!(rt; "yes"),
+        Ok(false) => println!(rt; "no"),
+        Err(refused) => say::refused_at(rt, refused),
     }
-    if answer.compatible == 0 {
-        return say::text(to, b"no\n");
-    }
-    say::text(to, b"yes\n");
 }
 
 // What the listing program writes.
-pub fn listed(to: Stdout, bytes: &[u8]) {
-    say::text(to, b"listing of ");
-    say::number(to, bytes.len());
-    say::text(to, b" bytes:\n");
+pub fn listed(rt: &impl Print, bytes: &[u8]) -> io::Result<()> {
+    println!(rt; "listing of {} bytes:", bytes.len())?;
     let mut text = [0u8; listing::TEXT_ROOM];
     let length = listing::list_sheet(bytes, &mut text);
-    say::text(to, &text[..length]);
+    io::writer(rt).write_all(&text[..length])
 }

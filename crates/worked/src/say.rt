@@ -1,108 +1,71 @@
-// What the program writes, part by part, to standard output.
-ghost use Rattle.std.specs.Prelude.{◌≡◌, not, ◌<◌, T};
-ghost use Rattle.std.specs.Float.Ieee.{is_nan};
+// What the program writes that is neither text nor a number, and the ends of lines that it often writes.
 ghost use Rattle.worked.specs.Slopes.{NoNan};
 
+use bisection::{Refusal, Refused};
 use slopes::Slopes;
-use std::io::{Print, Stdout};
+use std::{fmt, io};
 
-fn wide(b: u8) -> u64
-    ensures { (result ≡ b) × (result < 256) }
-{
-    b as u64
-}
+// The bytes of a code: two digits each.
+#[derive(Clone, Copy)]
+pub struct Code<'a>(pub &'a [u8]);
 
-// What cannot be written is left out.
-pub fn text(to: Stdout, bytes: &[u8]) {
-    let _written = to.write_all(bytes);
-}
-
-fn decimal(to: Stdout, n: u64) {
-    let mut digits = [0u8; 20];
-    let count = io::decimal(n, &mut digits);
-    text(to, &digits[..count]);
-}
-
-// A number in hex, with so many digits or more.
-fn spelled(to: Stdout, n: u64, width: usize) {
-    let mut digits = [0u8; 16];
-    let count = io::hex(n, width, &mut digits);
-    text(to, &digits[..count]);
-}
-
-pub fn number(to: Stdout, n: usize) {
-    decimal(to, n as u64);
-}
-
-// Bytes in hex, each with so many digits or more: two for a code, one for the axes of a root and the steps of a path.
-pub fn hex(to: Stdout, bytes: &[u8], digits: usize) {
-    for i in 0..bytes.len() {
-        spelled(to, wide(bytes[i]), digits);
+impl fmt::Display for Code<'_> {
+    fn fmt<W: fmt::Write>(&self, f: &mut fmt::Formatter<W>) -> fmt::Result {
+        for byte in self.0 {
+            write!(f, "{byte:02x}")?;
+        }
+        Ok(())
     }
 }
 
-fn pair(low: u8, high: u8) -> u64 {
-    wide(low) + 256 * wide(high)
-}
+// The axes of a root or the steps of a path: one digit each.
+#[derive(Clone, Copy)]
+pub struct Digits<'a>(pub &'a [u8]);
 
-// Numbers of two bytes each, the low byte first.
-pub fn pairs(to: Stdout, bytes: &[u8]) {
-    for n in 0..bytes.len() / 2 {
-        text(to, b" ");
-        decimal(to, pair(bytes[2 * n], bytes[2 * n + 1]));
+impl fmt::Display for Digits<'_> {
+    fn fmt<W: fmt::Write>(&self, f: &mut fmt::Formatter<W>) -> fmt::Result {
+        for byte in self.0 {
+            write!(f, "{byte:x}")?;
+        }
+        Ok(())
     }
 }
 
-// Four coordinates.
-pub fn four(to: Stdout, first: u16, second: u16, third: u16, fourth: u16) {
-    decimal(to, first as u64);
-    text(to, b" ");
-    decimal(to, second as u64);
-    text(to, b" ");
-    decimal(to, third as u64);
-    text(to, b" ");
-    decimal(to, fourth as u64);
+// Numbers of two bytes each, the low byte first: a space before each.
+#[derive(Clone, Copy)]
+pub struct Pairs<'a>(pub &'a [u8]);
+
+impl fmt::Display for Pairs<'_> {
+    fn fmt<W: fmt::Write>(&self, f: &mut fmt::Formatter<W>) -> fmt::Result {
+        for pair in self.0.chunks_exact(2) {
+            write!(f, " {}", u16::from_le_bytes([pair[0], pair[1]]))?;
+        }
+        Ok(())
+    }
 }
 
-// A number by its bits: -0.0 is another than +0.0.
-fn bits(to: Stdout, x: f64)
-    requires { T (not (is_nan x)) }
-{
-    spelled(to, f64::to_bits(x), 16);
-}
-
-// The end of a line: the slope on each of the four axes.
-pub fn slopes(to: Stdout, on: Slopes)
+// The slope on each of the four axes, by its bits: -0.0 is another than +0.0.
+pub fn slopes(rt: &impl Print, on: Slopes) -> io::Result<()>
     requires { NoNan on }
 {
-    bits(to, on.first);
-    text(to, b" ");
-    bits(to, on.second);
-    text(to, b" ");
-    bits(to, on.third);
-    text(to, b" ");
-    bits(to, on.fourth);
-    text(to, b"\n");
+    println!(rt;
+        "{:016x} {:016x} {:016x} {:016x}",
+        on.first.to_bits(),
+        on.second.to_bits(),
+        on.third.to_bits(),
+        on.fourth.to_bits()
+    )
 }
 
-// The end of a line: a code.
-pub fn line(to: Stdout, code: &[u8]) {
-    hex(to, code, 2);
-    text(to, b"\n");
-}
-
-// The end of a line: a refusal.
-pub fn refused(to: Stdout, refusal: u8) {
-    text(to, b"refused ");
-    number(to, common::size(refusal));
-    text(to, b"\n");
+pub fn refused(rt: &impl Print, refusal: Refusal) -> io::Result<()> {
+    println!(rt; "refused {}", u8::from(refusal))
 }
 
 // The same with the offset at which it was found.
-pub fn refused_at(to: Stdout, refusal: u8, offset: usize) {
-    text(to, b"refused ");
-    number(to, common::size(refusal));
-    text(to, b" at ");
-    number(to, offset);
-    text(to, b"\n");
+pub fn refused_at(rt: &impl Print, refused: Refused) -> io::Result<()> {
+    println!(rt;
+        "refused {} at {}",
+        u8::from(refused.refusal),
+        refused.offset
+    )
 }

@@ -6,14 +6,14 @@ use Rattle.codes.proofs.code_check.Goals as goal
 pub returns-then-code-lt2 : goal.returns-then-code-lt2
 returns-then-code-lt2 c = search (rules, check_short)
 
-pub returns-then-head-ne-DONE : goal.returns-then-head-ne-DONE
-returns-then-head-ne-DONE c = search (rules, check_head)
+pub returns-in_err-head : goal.returns-in_err-head
+returns-in_err-head c = search (rules, check_head)
 
 pub returns-then-code-head : goal.returns-then-code-head
 returns-then-code-head c = search (rules, check_length)
 
 pub code_body-requires : goal.code_body-requires
-code_body-requires c = check_headed c.args.code.now c.if-code-lt2.false _ c.code_head-head.ensures c.if-head-ne-DONE.false c.if-code-head.false
+code_body-requires c = search (rules, check_headed)
 
 pub returns : goal.returns
 returns c = search (rules, check_body)

@@ -3,8 +3,8 @@ use Rattle.codes.specs.ParentAnswers.{parent_own, parent_root, parent_short, par
 use borrow.Author.Rules.{rules}
 use Rattle.codes.proofs.parent.Goals as goal
 
-pub returns-then-refusal-ne-DONE : goal.returns-then-refusal-ne-DONE
-returns-then-refusal-ne-DONE c = search (rules, parent_own)
+pub returns-in_err-code : goal.returns-in_err-code
+returns-in_err-code c = search (rules, parent_own)
 
 pub returns-then-depth-eq0 : goal.returns-then-depth-eq0
 returns-then-depth-eq0 c = search (rules, parent_root)

@@ -3,8 +3,8 @@ use Rattle.codes.specs.CellAnswers.{vertices_own, vertices_short, vertices_ready
 use borrow.Author.Rules.{rules}
 use Rattle.codes.proofs.vertices.Goals as goal
 
-pub returns-then-refusal-ne-DONE : goal.returns-then-refusal-ne-DONE
-returns-then-refusal-ne-DONE c = search (rules, vertices_own)
+pub returns-in_err-code : goal.returns-in_err-code
+returns-in_err-code c = search (rules, vertices_own)
 
 pub returns-then-points-length : goal.returns-then-points-length
 returns-then-points-length c = search (rules, vertices_short)

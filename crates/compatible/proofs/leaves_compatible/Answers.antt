@@ -1,5 +1,5 @@
 -- `leaves_compatible` meets its contract: the index is that of the sheet.
-use Rattle.compatible.specs.Answers.{index_ready, sheet_ready, first_holds}
+use Rattle.compatible.specs.Answers.{index_ready, sheet_ready}
 use borrow.Author.Rules.{rules}
 use Rattle.compatible.proofs.leaves_compatible.Goals as goal
 
@@ -8,6 +8,3 @@ index_of-spread-requires c = search (rules, index_ready)
 
 pub all_hold-requires : goal.all_hold-requires
 all_hold-requires c = search (rules, sheet_ready)
-
-pub returns : goal.returns
-returns c = search (rules, first_holds)

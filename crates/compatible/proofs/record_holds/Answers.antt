@@ -1,45 +1,29 @@
 -- `record_holds` meets its contract: the code of the record's leaf stands behind the mark, and its last step is told by where it starts.
 use native.Mathlib.Omega.{arith}
-use Rattle.finding.specs.Records.{record_known, record_behind, record_code, record_deep}
-use Rattle.compatible.specs.Walking.{record_end, record_end_fits, record_room, record_few, record_some, record_leaf, record_holds}
-use borrow.Author.Rules.{rules}
+use Rattle.finding.specs.Records.{record_two, record_deep}
+use Rattle.compatible.specs.Walking.{record_end, record_leaf, record_passed, record_broken}
 use Rattle.compatible.proofs.record_holds.Goals as goal
 
-pub overflow_add-at : goal.overflow_add-at
-overflow_add-at c = search (rules, record_behind)
+pub depth_at-depth-requires : goal.depth_at-depth-requires
+depth_at-depth-requires c = record_two c.requires.at
 
-pub slice_bounds-code_depth-count : goal.slice_bounds-code_depth-count
-slice_bounds-code_depth-count c = search (rules, record_behind)
+pub part-size-requires : goal.part-size-requires
+part-size-requires c = record_deep c.requires.at c.depth_at-depth.ensures
 
-pub slice_bounds-code_depth-start : goal.slice_bounds-code_depth-start
-slice_bounds-code_depth-start c = search (rules, record_behind)
-
-pub code_depth-depth-requires : goal.code_depth-depth-requires
-code_depth-depth-requires c = search (rules, record_code)
-
-pub checked-dim-requires : goal.checked-dim-requires
-checked-dim-requires c = search (rules, record_known)
-
-pub overflow_add-end : goal.overflow_add-end
-overflow_add-end c = omega (arith, record_end_fits c.requires c.code_depth-depth.ensures c.checked-dim.ensures c.code_length.ensures)
-
-pub overflow_sub-greatest_depth : goal.overflow_sub-greatest_depth
-overflow_sub-greatest_depth c = search (rules, record_room)
-
-pub power-size-requires : goal.power-size-requires
-power-size-requires c = search (rules, record_few)
-
-pub nonzero_div-step : goal.nonzero_div-step
-nonzero_div-step c = search (rules, record_some)
+pub overflow_add-code : goal.overflow_add-code
+overflow_add-code c = omega (arith, record_end c.depth_at-depth.ensures c.code_length.ensures c.requires.at, c.requires.at.long)
 
 pub slice_bounds-code-end : goal.slice_bounds-code-end
-slice_bounds-code-end c = omega (arith, record_end c.requires c.code_depth-depth.ensures c.checked-dim.ensures c.code_length.ensures)
+slice_bounds-code-end c = omega (arith, record_end c.depth_at-depth.ensures c.code_length.ensures c.requires.at)
 
-pub leaf_holds-holds-requires : goal.leaf_holds-holds-requires
-leaf_holds-holds-requires c = record_leaf c.requires c.code_depth-depth.ensures c.checked-dim.ensures c.code_length.ensures c.greatest_depth.ensures c.power-size.ensures
+pub leaf_holds-requires : goal.leaf_holds-requires
+leaf_holds-requires c = record_leaf c.depth_at-depth.ensures c.code_length.ensures c.part-size.ensures c.requires
 
-pub record_length-length-requires : goal.record_length-length-requires
-record_length-length-requires c = search (rules, record_known, record_deep)
+pub record_length-requires : goal.record_length-requires
+record_length-requires c = record_deep c.requires.at c.depth_at-depth.ensures
 
-pub returns : goal.returns
-returns c = search (rules, record_holds)
+pub returns-then-leaf_holds : goal.returns-then-leaf_holds
+returns-then-leaf_holds c = record_passed c.depth_at-depth.ensures c.code_length.ensures c.part-size.ensures c.leaf_holds.ensures c.if-leaf_holds.true c.record_length.ensures
+
+pub returns-else-leaf_holds : goal.returns-else-leaf_holds
+returns-else-leaf_holds c = record_broken c.depth_at-depth.ensures c.code_length.ensures c.leaf_holds.ensures c.if-leaf_holds.false

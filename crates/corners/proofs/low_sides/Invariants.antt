@@ -1,9 +1,11 @@
--- `low_sides` meets its contract. The loop keeps: all bytes but the last `back` are the digits read.
+-- `low_sides` meets its contract. The loop keeps: the first i of the bytes read are digits.
+use Prim.Native.Nat.{◌+◌, ◌-◌, ◌*◌, ◌/◌}
+use Rattle.dimension.specs.Sizes.{halvings}
 use Rattle.corners.specs.Lows.{LowsSoFar}
 use Rattle.corners.proofs.low_sides.Given as goal
 
-abbrev pub invariant-loop-back : goal.invariant-loop-back
-invariant-loop-back l = LowsSoFar l.initial.back l.code l.back l.digits
+abbrev pub invariant-loop-i : goal.invariant-loop-i
+invariant-loop-i l = LowsSoFar ((halvings + 3) / 4 * 4) l.code l.i l.digits
 
-abbrev pub decreases-loop-back : goal.decreases-loop-back
-decreases-loop-back l = l.back
+abbrev pub decreases-loop-i : goal.decreases-loop-i
+decreases-loop-i l = (halvings + 3) / 4 * 4 - l.i

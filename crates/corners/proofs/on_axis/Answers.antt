@@ -3,4 +3,4 @@ use Rattle.corners.specs.PointWords.{on_axis_by}
 use Rattle.corners.proofs.on_axis.Goals as goal
 
 pub returns : goal.returns
-returns c = on_axis_by c.axis_of.ensures c.size.ensures c.requires
+returns c = on_axis_by c.axis_of.ensures c.from.ensures c.requires

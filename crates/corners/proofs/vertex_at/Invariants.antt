@@ -1,10 +1,6 @@
 -- `vertex_at` meets its contract. The loop keeps: what the first t entries add to the low sides.
-use Prim.Native.Nat.{◌-◌}
 use Rattle.corners.specs.Vertices.{Rising}
 use Rattle.corners.proofs.vertex_at.Given as goal
 
 abbrev pub invariant-loop-t : goal.invariant-loop-t
 invariant-loop-t l = Rising l.lows l.side l.entries l.split l.j l.reach l.far l.back l.t l.point
-
-abbrev pub decreases-loop-t : goal.decreases-loop-t
-decreases-loop-t l = 4 - l.t

@@ -1,11 +1,7 @@
--- `cross` meets its contract: the code's own refusal comes first, then what the crossing's number says.
+-- `cross` meets its contract: the code's own refusal comes first.
 use Rattle.crossing.proofs.AnswerLaws.{cross_own}
-use Rattle.crossing.proofs.LandingLaws.{lands}
 use borrow.Author.Rules.{rules}
 use Rattle.crossing.proofs.cross.Goals as goal
 
-pub returns-then-refusal-ne-DONE : goal.returns-then-refusal-ne-DONE
-returns-then-refusal-ne-DONE c = search (rules, cross_own)
-
-pub returns : goal.returns
-returns c = search (rules, lands)
+pub returns-in_err-checked : goal.returns-in_err-checked
+returns-in_err-checked c = search (rules, cross_own)

@@ -1,5 +1,4 @@
 -- `cross_inside` meets its contract: refusal 11, or the code copied, with its entries rearranged; there is always a cell across.
-use native.Mathlib.Omega.{arith}
 use Rattle.crossing.proofs.StayingLaws.{staying_room, staying_two, staying_four, staying_put, staying_few, staying_long, staying_most, staying_short, staying_movable, staying_done}
 use borrow.Author.Rules.{rules}
 use Rattle.crossing.proofs.cross_inside.Goals as goal
@@ -21,9 +20,6 @@ copy_front-requires c = search (rules, staying_long, staying_most)
 
 pub write-requires : goal.write-requires
 write-requires c = search (rules, staying_two, staying_four, staying_put)
-
-pub overflow_add-result : goal.overflow_add-result
-overflow_add-result c = omega (arith, c.rearranged-moved.ensures.few, staying_four c.requires, c.requires.inside)
 
 pub returns : goal.returns
 returns c = search (rules, staying_done)

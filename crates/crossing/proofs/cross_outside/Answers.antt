@@ -48,9 +48,6 @@ overflow_add-out c = omega (arith, leaving_few c.requires, c.requires.place)
 pub bounds-out-at : goal.bounds-out-at
 bounds-out-at c = omega (arith, leaving_at c.requires, c.carry.ensures.size, c.out-1.given, c.if-out-length.false)
 
-pub overflow_add-result : goal.overflow_add-result
-overflow_add-result c = omega (arith, leaving_few c.requires, c.requires.facet)
-
 pub shape_of-out : goal.shape_of-out
 shape_of-out c = simp length-set (c.carry.ensures.size ∙ c.out-1.given)
 

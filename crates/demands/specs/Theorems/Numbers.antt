@@ -2,15 +2,16 @@
 -- offset.
 use Rattle.std.specs.Prelude.{◌≡◌, refl, true, false, List, [], ◌∷◌, ◌≢◌, ℕ, zero, suc, ◌≤◌, drop}
 use Rattle.std.proofs.Common.{ap, ◌∙◌, arith}
-use Rattle.bisection.specs.Refusals.{done, Test, need, own, first_refusal, head_refusal, body_refusal, code_refusal}
+use Rattle.bisection.specs.Refusals.{done, Test, need, own, first_refusal, head_refusal, body_refusal, code_refusal, refused_point}
+use Rattle.bisection.specs.declared.Refused.{Refused}
+use Rattle.bisection.specs.Numbers.{number_of}
 use Rattle.codes.specs.Fronts.{front_code}
 use Rattle.codes.specs.Fronts.Laws.{front_refusal_is, inner_refusal_is}
 use Rattle.codes.specs.Outcomes.{path_refusal, to_path_refusal, vertices_refusal, child_refusal, parent_refusal}
 use Rattle.sheets.specs.declared.SheetAnswer.{SheetAnswer}
 use Rattle.sheets.specs.Sheets.{sheet_mark, sample_width, SheetIs, good, record_refused, not_next, ended_early, behind_mark, unmarked_refusal, record_refusal, told, Good, Query, sheet_refused, sheet_good}
 use Rattle.sheets.specs.Theorems.Determined.{sheet_determined}
-use Rattle.points.specs.Points.{refused_point}
-use Rattle.queries.specs.Queries.{leaf_refusal}
+use Rattle.queries.specs.Queries.{leaf_refusal, Tells}
 use Rattle.demands.specs.One.{OffsetOf}
 
 -- the numbers of a list of tests
@@ -95,26 +96,10 @@ module _ {sheet : List ℕ} {refused : ℕ → ℕ → Type 0} {answered : (n : 
       go (sheet_refused {a = b} t k x) = f b.refusal b.offset x ∙ ap (λ (a : SheetAnswer). a.offset) (sheet_determined sheet b a t s)
       go (sheet_good {n = n} g x) = h n g x ∙ ap (λ (a : SheetAnswer). a.offset) (sheet_determined sheet (told done 0 n) a (good g refl) s)
 
--- an answer that is refused or not, and what a C program has of it: of a refusal its number and its offset
-pub record Told (A : Type 0) : Type 0 where
-  pub refused : ℕ → ℕ → A
-  pub number : A → ℕ
-  pub offset : A → ℕ
-  pub number_is : (n o : ℕ) → number (refused n o) ≡ n
-  pub offset_is : (n o : ℕ) → offset (refused n o) ≡ o
+-- the refusal of a query, where a good sheet is refused by its point alone
+module _ (r : Refused) {sheet : List ℕ} {answered : (n : ℕ) → Good sheet n → Type 0} (q : Query sheet (Tells r) answered) (by_point : (n : ℕ) (g : Good sheet n) → answered n g → Tells r refused_point 0) where
+  pub told_in : number_of r.refusal ≤ 15
+  told_in = query_in q (λ n o e. e.0) (λ n g x. omega (arith, (by_point n g x).0))
 
--- such an answer of a query that is refused, of a good sheet by its point
-module _ {A : Type 0} (t : Told A) {sheet : List ℕ} {a : A} {answered : (n : ℕ) → Good sheet n → Type 0} (q : Query sheet (λ n o. a ≡ t.refused n o) answered)
-    (by_point : (n : ℕ) (g : Good sheet n) → answered n g → a ≡ t.refused refused_point 0) where
-  pub told_in : t.number a ≤ 15
-  told_in = query_in q (λ n o e. ap t.number e ∙ t.number_is n o) (λ n g x. omega (arith, ap t.number (by_point n g x), t.number_is refused_point 0))
-
-  pub told_offset : OffsetOf sheet (t.offset a)
-  told_offset = query_offset q (λ n o e. ap t.offset e ∙ t.offset_is n o) (λ n g x. ap t.offset (by_point n g x) ∙ t.offset_is refused_point 0)
-
-  pub told_none : {X : Type 0} (others : A → X) (none : X) → ((n o : ℕ) → others (t.refused n o) ≡ none) → others a ≡ none
-  told_none others none e = go q
-    where
-      go : Query sheet (λ n o. a ≡ t.refused n o) answered → others a ≡ none
-      go (sheet_refused s k x) = ap others x ∙ e _ _
-      go (sheet_good g x) = ap others (by_point _ g x) ∙ e refused_point 0
+  pub told_offset : OffsetOf sheet r.offset
+  told_offset = query_offset q (λ n o e. e.1) (λ n g x. (by_point n g x).1)

@@ -1,9 +1,10 @@
 -- Demand 1 holds: each part from the contract of its entry.
-use Rattle.std.specs.Prelude.{◌≡◌, refl, List, [], ◌∷◌, ◌≢◌, ℕ, ◌≤◌, ◌<◌, length}
-use Rattle.std.proofs.Common.{ap, ◌∙◌, arith}
+use Rattle.std.specs.Prelude.{◌≡◌, refl, List, [], ◌∷◌, ◌≢◌, ℕ, ◌≤◌, ◌<◌, length, Float, Result, Ok, Err, IsErrAnd}
+use Rattle.std.proofs.Common.{ap, ◌∙◌, subst, arith}
 use Rattle.std.proofs.Math.Decide.{dec_lt, ℕ_discrete}
 use Rattle.bisection.specs.Codes.{dimension_of}
-use Rattle.bisection.specs.Refusals.{done, code_refusal}
+use Rattle.bisection.specs.declared.Refused.{Refused}
+use Rattle.bisection.specs.Refusals.{done, code_refusal, refused_point}
 use Rattle.codes.specs.declared.Written.{Written}
 use Rattle.codes.specs.declared.PathWritten.{PathWritten}
 use Rattle.codes.specs.Outcomes.{Writes, CodeToPath}
@@ -11,22 +12,18 @@ use Rattle.crossing.specs.declared.Crossed.{Crossed}
 use Rattle.crossing.specs.Outcome.{Refuses, Crosses, Meets, wall, short, crossed}
 use Rattle.sheets.specs.Sheets.{Good, sheet_refused, sheet_good}
 use Rattle.queries.specs.declared.LeafAnswer.{LeafAnswer}
-use Rattle.queries.specs.Queries.{LeafIs, LeafOn, leaf_refused, leaf_found, leaf_told, ValueOn, value_refused, value_found, FlatValueIs}
+use Rattle.queries.specs.Queries.{LeafIs, LeafOn, leaf_refused, leaf_found, leaf_told, Tells, ValueOn, value_refused, value_found, ValueIs, FlatValueIs}
 use Rattle.greys.specs.declared.ValueAnswer.{ValueAnswer}
-use Rattle.greys.specs.declared.Value.{Value}
-use Rattle.greys.specs.declared.Value.TheVariants.{Refused}
 use Rattle.greys.specs.Fractions.{plus_zero}
 use Rattle.greys.specs.Values.{flat_of}
-use Rattle.queries.specs.SlopeQueries.{SlopeOn, slope_refused, slope_found, FlatSlopeIs}
+use Rattle.queries.specs.SlopeQueries.{SlopeOn, slope_refused, slope_found, SlopeIs, FlatSlopeIs}
 use Rattle.slopes.specs.declared.SlopeAnswer.{SlopeAnswer}
-use Rattle.slopes.specs.declared.Slope.{Slope}
-use Rattle.slopes.specs.declared.Slope.TheVariants.{Refused as NoSlope}
+use Rattle.slopes.specs.declared.Slopes.{Slopes}
 use Rattle.slopes.specs.Slopes.{no_slopes, flat_of as flat_slope}
 use Rattle.compatible.specs.declared.CompatibleAnswer.{CompatibleAnswer}
 use Rattle.compatible.specs.Compatible.{CompatibleIs, Judges, yes_all, not_all}
-use Rattle.points.specs.Points.{refused_point}
 use Rattle.demands.specs.One.{Zero, Clean, OffsetOf, Demand1}
-use Rattle.demands.specs.Theorems.Numbers.{code_in, path_in, to_path_in, vertices_in, child_in, parent_in, leaf_in_is, sheet_in, sheet_none, query_offset, Told, told_in, told_offset, told_none}
+use Rattle.demands.specs.Theorems.Numbers.{code_in, path_in, to_path_in, vertices_in, child_in, parent_in, leaf_in_is, sheet_in, sheet_none, query_offset, told_in, told_offset}
 
 -- what is written, and what crossing refuses
 writes_clean : {refusal : ℕ} {answer before : List ℕ} {r : Written} {after : List ℕ} → Writes refusal answer before r after → refusal ≤ 15 → r.refusal ≢ done → Clean r.refusal (r.length ∷ []) (before ∷ []) (after ∷ [])
@@ -88,26 +85,26 @@ unfolding Zero
 nothing l = record { in_table = l; zero = tt; kept = refl }
 
 value_clean : (sheet point : List ℕ) (r : ValueAnswer) → FlatValueIs sheet point r → r.refusal ≢ done → Clean r.refusal [] [] [] × OffsetOf sheet r.offset × (r.value ≡ plus_zero)
-unfolding flat_of
-value_clean sheet point r f k = rw f.is (nothing (told_in t f.value by_point), told_offset t f.value by_point, told_none t f.value by_point (λ v. (flat_of v).value) plus_zero (λ n o. refl))
+value_clean sheet point r f k = go f.answer f.value f.is
   where
-    t : Told Value
-    t = record { refused = Refused; number = λ v. (flat_of v).refusal; offset = λ v. (flat_of v).offset; number_is = λ n o. refl; offset_is = λ n o. refl }
+    by_point : (y : Refused) (n : ℕ) (g : Good sheet n) → ValueOn g point (Err y) → Tells y refused_point 0
+    by_point y n g (value_refused h t) = t
+    by_point y n g (value_found h a w x e) = absurd (subst (λ v. IsErrAnd v (λ y. Unit {0})) e tt)
 
-    by_point : (n : ℕ) (g : Good sheet n) → ValueOn g point f.answer → f.answer ≡ Refused refused_point 0
-    by_point n g (value_refused h e) = e
-    by_point n g (value_found h a w x e) = absurd (k (ap (λ (r : ValueAnswer). r.refusal) (f.is ∙ ap flat_of e)))
+    go : (v : Result Float Refused) → ValueIs sheet point v → r ≡ flat_of v → Clean r.refusal [] [] [] × OffsetOf sheet r.offset × (r.value ≡ plus_zero)
+    go (Ok x) q e = absurd (k (ap (λ (r : ValueAnswer). r.refusal) e))
+    go (Err y) q e = rw e (nothing (told_in y q (by_point y)), told_offset y q (by_point y), refl)
 
 slope_clean : (sheet point : List ℕ) (r : SlopeAnswer) → FlatSlopeIs sheet point r → r.refusal ≢ done → Clean r.refusal [] [] [] × OffsetOf sheet r.offset × (r.slopes ≡ no_slopes)
-unfolding flat_slope
-slope_clean sheet point r f k = rw f.is (nothing (told_in t f.slope by_point), told_offset t f.slope by_point, told_none t f.slope by_point (λ v. (flat_slope v).slopes) no_slopes (λ n o. refl))
+slope_clean sheet point r f k = go f.answer f.slope f.is
   where
-    t : Told Slope
-    t = record { refused = NoSlope; number = λ v. (flat_slope v).refusal; offset = λ v. (flat_slope v).offset; number_is = λ n o. refl; offset_is = λ n o. refl }
+    by_point : (y : Refused) (n : ℕ) (g : Good sheet n) → SlopeOn g point (Err y) → Tells y refused_point 0
+    by_point y n g (slope_refused h t) = t
+    by_point y n g (slope_found h a l c e) = absurd (subst (λ v. IsErrAnd v (λ y. Unit {0})) e tt)
 
-    by_point : (n : ℕ) (g : Good sheet n) → SlopeOn g point f.answer → f.answer ≡ NoSlope refused_point 0
-    by_point n g (slope_refused h e) = e
-    by_point n g (slope_found h a l c e) = absurd (k (ap (λ (r : SlopeAnswer). r.refusal) (f.is ∙ ap flat_slope e)))
+    go : (v : Result Slopes Refused) → SlopeIs sheet point v → r ≡ flat_slope v → Clean r.refusal [] [] [] × OffsetOf sheet r.offset × (r.slopes ≡ no_slopes)
+    go (Ok x) q e = absurd (k (ap (λ (r : SlopeAnswer). r.refusal) e))
+    go (Err y) q e = rw e (nothing (told_in y q (by_point y)), told_offset y q (by_point y), refl)
 
 compatible_clean : (sheet : List ℕ) (r : CompatibleAnswer) → CompatibleIs sheet r → r.refusal ≢ done → Clean r.refusal (r.compatible ∷ []) [] [] × OffsetOf sheet r.offset
 unfolding Zero

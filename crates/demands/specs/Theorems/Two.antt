@@ -1,5 +1,5 @@
 -- Demand 2 holds, from the contracts and the bisection's theorems.
-use Rattle.std.specs.Prelude.{◌≡◌, refl, true, List, ℕ, suc, ◌*◌, ◌≤◌, leb, length, get_or, take, drop, Float}
+use Rattle.std.specs.Prelude.{◌≡◌, refl, true, List, ℕ, suc, ◌*◌, ◌≤◌, leb, length, get_or, take, drop, Float, Ok}
 use Rattle.std.proofs.Common.{sym, ap, ◌∙◌, subst, arith, take_at, leb-true, ltb-true}
 use Rattle.dimension.specs.Sizes.{greatest_depth, split_place}
 use Rattle.bisection.specs.Cells.{Point, Cell, cell_of, cell_bytes, point_bytes, child}
@@ -30,12 +30,8 @@ use Rattle.finding.specs.Walk.{leaf_good}
 use Rattle.queries.specs.Queries.{LeafIs, LeafAt, LeafWeights, LeafOn, leaf_refused, leaf_found, weights_length, side_in, ValueIs, ValueOn, value_refused, value_found}
 use Rattle.greys.specs.Fractions.{Fraction}
 use Rattle.greys.specs.Samples.{grey_sum, sample_at}
-use Rattle.greys.specs.declared.Value.{Value}
-use Rattle.greys.specs.declared.Value.TheVariants.{Grey, Refused}
 use Rattle.queries.specs.SlopeQueries.{SlopeIs, SlopeOn, slope_refused, slope_found}
 use Rattle.slopes.specs.declared.Slopes.{Slopes}
-use Rattle.slopes.specs.declared.Slope.{Slope}
-use Rattle.slopes.specs.declared.Slope.TheVariants.{Along, Refused as NoSlope}
 use Rattle.compatible.specs.declared.CompatibleAnswer.{CompatibleAnswer}
 use Rattle.rings.specs.Compatible.{Compatible}
 use Rattle.compatible.specs.Compatible.{CompatibleIs, Judges, yes_all, not_all}
@@ -125,44 +121,28 @@ leaf_there sheet point before r after q e = go q
     go (sheet_refused {a = a} s k x) = absurd (k (sym (ap (λ (r : LeafAnswer). r.refusal) x.0) ∙ e))
     go (sheet_good g x) = on g x
 
-abbrev is_grey : Value → Type 0
-is_grey (Grey y) = Unit {0}
-is_grey (Refused n o) = ⊥
-
-abbrev grey_of : Float → Value → Float
-grey_of z (Grey y) = y
-grey_of z (Refused n o) = z
-
 -- the value of a leaf there
 Valued : List ℕ → List ℕ → Float → Type 0
 Valued sheet point x = (t : There sheet point) × Fraction x (grey_sum sample_width t.weights (samples_of t.good.records t.number)) (side_in t.good.cells t.number)
 
-value_there : (sheet point : List ℕ) (x : Float) → ValueIs sheet point (Grey x) → (t : There sheet point) × Fraction x (grey_sum sample_width t.weights (samples_of t.good.records t.number)) (side_in t.good.cells t.number)
+value_there : (sheet point : List ℕ) (x : Float) → ValueIs sheet point (Ok x) → (t : There sheet point) × Fraction x (grey_sum sample_width t.weights (samples_of t.good.records t.number)) (side_in t.good.cells t.number)
 unfolding Valued
 value_there sheet point x q = go q
   where
-    on : {n : ℕ} (g : Good sheet n) → ValueOn g point (Grey x) → Valued sheet point x
-    on g (value_refused h t) = absurd (subst is_grey t tt)
-    on {n} g (value_found {i = i} {ws = ws} {x = y} h a w f t) = subst (Valued sheet point) (sym (ap (grey_of x) t)) (record { count = n; good = g; number = i; leaf = a; weights = ws; weighs = w }, f)
+    on : {n : ℕ} (g : Good sheet n) → ValueOn g point (Ok x) → Valued sheet point x
+    on g (value_refused h t) = absurd t
+    on {n} g (value_found {i = i} {ws = ws} {x = y} h a w f t) = let same : y ≡ x = cc in subst (Valued sheet point) same (record { count = n; good = g; number = i; leaf = a; weights = ws; weighs = w }, f)
 
-    go : ValueIs sheet point (Grey x) → Valued sheet point x
-    go (sheet_refused s k t) = absurd (subst is_grey t tt)
+    go : ValueIs sheet point (Ok x) → Valued sheet point x
+    go (sheet_refused s k t) = absurd t
     go (sheet_good g t) = on g t
 
-abbrev slopes_of : Slopes → Slope → Slopes
-slopes_of z (Along y) = y
-slopes_of z (NoSlope n o) = z
-
-abbrev is_along : Slope → Type 0
-is_along (Along y) = Unit {0}
-is_along (NoSlope n o) = ⊥
-
-slopes_there : (sheet point : List ℕ) (x : Slopes) → SlopeIs sheet point (Along x) → SlopesThere sheet point x
+slopes_there : (sheet point : List ℕ) (x : Slopes) → SlopeIs sheet point (Ok x) → SlopesThere sheet point x
 slopes_there sheet point x q = go q
   where
-    on : {n : ℕ} (g : Good sheet n) → SlopeOn g point (Along x) → SlopesThere sheet point x
-    on g (slope_refused h t) = absurd (subst is_along t tt)
-    on {n} g (slope_found {i = i} {ns = ns} {x = y} h a l c t) = subst (SlopesThere sheet point) (sym (ap (slopes_of x) t))
+    on : {n : ℕ} (g : Good sheet n) → SlopeOn g point (Ok x) → SlopesThere sheet point x
+    on g (slope_refused h t) = absurd t
+    on {n} g (slope_found {i = i} {ns = ns} {x = y} h a l c t) = let same : y ≡ x = cc in subst (SlopesThere sheet point) same
         (record { count = n; good = g; number = i; leaf = a; numbers = ns; linear = l; only = λ us k. one.others k ∙ sym (one.others l); components = c })
       where
         cell : GoodCell (leaf_in g.cells i)
@@ -171,8 +151,8 @@ slopes_there sheet point x q = go q
         one : OneSlope (leaf_in g.cells i).root (leaf_in g.cells i).path (sample_at sample_width (samples_of g.records i))
         one = one_slope (leaf_in g.cells i).root (leaf_in g.cells i).path cell.good_root cell.good_path.depth (sample_at sample_width (samples_of g.records i))
 
-    go : SlopeIs sheet point (Along x) → SlopesThere sheet point x
-    go (sheet_refused s k t) = absurd (subst is_along t tt)
+    go : SlopeIs sheet point (Ok x) → SlopesThere sheet point x
+    go (sheet_refused s k t) = absurd t
     go (sheet_good g t) = on g t
 
 told_compatible : (sheet : List ℕ) (r : CompatibleAnswer) → CompatibleIs sheet r → (n : ℕ) (g : Good sheet n) → (r.compatible ≡ 1 → Compatible g.cells) × (Compatible g.cells → r.compatible ≡ 1)

@@ -1,7 +1,8 @@
 -- `is_minus` meets its contract: it is the definition.
-use mathlib.Core.Path.{refl}
 use Rattle.bisection.specs.Codes.{minus}
+use borrow.Author.Rules.{rules}
 use Rattle.entries.proofs.is_minus.Goals as goal
 
 pub returns : goal.returns
-returns c = unfold minus in refl
+unfolding minus
+returns c = search rules

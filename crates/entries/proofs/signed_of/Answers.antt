@@ -1,13 +1,10 @@
 -- `signed_of` meets its contract: a byte below 128 is the number, another its negative.
-use native.Mathlib.Omega.{arith}
-use Rattle.entries.specs.Signs.{plus_value, minus_fits, minus_value}
+use borrow.Author.Rules.{rules}
+use Rattle.entries.specs.Signs.{plus_value, minus_value}
 use Rattle.entries.proofs.signed_of.Goals as goal
 
 pub returns-then-e-lt128 : goal.returns-then-e-lt128
-returns-then-e-lt128 c = plus_value c.args.e c.if-e-lt128.true
+returns-then-e-lt128 c = search (rules, plus_value)
 
-pub overflow_sub-result : goal.overflow_sub-result
-overflow_sub-result c = minus_fits c.args.e c.if-e-lt128.false (omega arith)
-
-pub returns : goal.returns
-returns c = minus_value c.args.e c.if-e-lt128.false (omega arith)
+pub returns-else-e-lt128 : goal.returns-else-e-lt128
+returns-else-e-lt128 c = search (rules, minus_value)

@@ -1,13 +1,14 @@
 -- `kind_of` meets its contract.
-use Rattle.finding.specs.Theorems.OneOfThree.{same, larger, kind_left}
-use borrow.Author.Rules.{rules}
+use native.Mathlib.Omega.{arith}
+use Rattle.std.proofs.lemmas.Bool.Decides.{nat_tests}
+use Rattle.finding.specs.Theorems.OneOfThree.{same, larger, smaller}
 use Rattle.finding.proofs.kind_of.Goals as goal
 
-pub returns-then-leaf-cell : goal.returns-then-leaf-cell
-returns-then-leaf-cell c = search (rules, same)
+pub returns-in-Equal : goal.returns-in-Equal
+returns-in-Equal c = same (grind (arith, nat_tests))
 
-pub returns-then-cell-leaf : goal.returns-then-cell-leaf
-returns-then-cell-leaf c = search (rules, larger)
+pub returns-in-Less : goal.returns-in-Less
+returns-in-Less c = larger (grind (arith, nat_tests))
 
-pub returns : goal.returns
-returns c = search (rules, kind_left)
+pub returns-in-Greater : goal.returns-in-Greater
+returns-in-Greater c = smaller (grind (arith, nat_tests))

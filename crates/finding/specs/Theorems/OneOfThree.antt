@@ -67,9 +67,6 @@ pub data KindIs (leaf cell : ℕ) : Kind → Type 0 where
   larger : cell < leaf → KindIs leaf cell Inside
   smaller : leaf < cell → KindIs leaf cell Split
 
-pub kind_left : {leaf cell : ℕ} → (leaf ≡ cell → ⊥) → leaf ≤ cell → KindIs leaf cell Split
-kind_left n l = smaller (omega arith)
-
 kinds_one : {leaf leaf' cell : ℕ} {k k' : Kind} → leaf ≡ leaf' → KindIs leaf cell k → KindIs leaf' cell k' → k ≡ k'
 kinds_one e (same a) (same b) = refl
 kinds_one e (same a) (larger b) = absurd (omega arith)

@@ -5,4 +5,4 @@ use Rattle.fours.specs.Laws.{back_is}
 use Rattle.fours.proofs.turned_back.Goals as goal
 
 pub returns : goal.returns
-returns c = rw (c.pick-second.ensures, c.pick-third.ensures, c.pick-fourth.ensures) (back_is c.args.e c.args.n _ c.requires (c.negate-first.ensures ∙ ap negated c.entry.ensures))
+returns c = rw (c.pick.ensures, c.pick-2.ensures, c.pick-3.ensures) (back_is c.args.e c.args.n _ c.requires (c.negate.ensures ∙ ap negated c.entry.ensures))

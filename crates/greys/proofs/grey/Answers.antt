@@ -4,7 +4,9 @@ use Rattle.greys.specs.Exact.{cube_power}
 use Rattle.greys.proofs.grey.Goals as goal
 
 pub fraction-requires : goal.fraction-requires
-fraction-requires c = (c.grey_sum.ensures.1, unfold cube_side halvings in cube_power)
+unfolding cube_side halvings
+fraction-requires c = (c.grey_sum.ensures.1, rw c.from.ensures cube_power)
 
 pub returns : goal.returns
-returns c = unfold cube_side halvings in rw (← c.grey_sum.ensures.0) c.fraction.ensures
+unfolding cube_side halvings
+returns c = rw (← c.grey_sum.ensures.0, ← c.from.ensures) c.fraction.ensures

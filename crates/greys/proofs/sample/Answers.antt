@@ -1,17 +1,25 @@
--- `sample` meets its contract. The loop keeps: the last j bytes before the sample's end are read.
-use mathlib.Core.Path.{◌≡◌}
+-- `sample` meets its contract. The loop keeps: the bytes that the iterator has not left are read.
+use Rattle.std.specs.Prelude.{◌≡◌, ◌+◌, ◌-◌, ◌*◌}
 use native.Mathlib.Omega.{arith}
-use Rattle.greys.specs.Loops.{reading_start, reading_next, reading_end}
+use Rattle.greys.specs.Samples.{sample_at}
+use Rattle.greys.specs.Loops.{reading_start, reading_small, reading_next, reading_end}
 use Rattle.greys.proofs.sample.Goals as goal
 
-pub loop-j-init : goal.loop-j-init
-loop-j-init c = (reading_start _ _, omega arith)
+pub loop-byte-init : goal.loop-byte-init
+loop-byte-init c = reading_start c.args.samples.now _ _ c.requires.0 (λ k. omega (arith, (c.type_inv.samples k).fits))
+    (rw (c.into_iter-byte-iterator.ensures.into_iter_gives, c.rev-byte-items.ensures.source) (rw width at c.iter.ensures.rest))
+  where
+    width : c.args.width * c.args.i + c.args.width - c.args.width * c.args.i ≡ c.args.width
+    width = omega arith
 
-pub loop-j-preserved : goal.loop-j-preserved
-loop-j-preserved c = (
-  reading_next c.loop-j.invariant.0 (omega arith) (omega arith) (omega arith) c.wide.ensures.0 c.wide.ensures.1,
-  omega arith,
-)
+pub overflow_mul-n : goal.overflow_mul-n
+overflow_mul-n c = record { fits = omega (arith, reading_small c.loop-byte.invariant) }
+
+pub overflow_add-n : goal.overflow_add-n
+overflow_add-n c = record { fits = omega (arith, c.from.ensures, reading_small (reading_next c.loop-byte.invariant _ c.in-Some.ensures.steps)) }
+
+pub loop-byte-preserved : goal.loop-byte-preserved
+loop-byte-preserved c = rw c.from.ensures (reading_next c.loop-byte.invariant _ c.in-Some.ensures.steps)
 
 pub returns : goal.returns
-returns c = let e : c.loop-j.j ≡ c.args.width = omega arith in (reading_end _ (rw e at c.loop-j.invariant.0), c.loop-j.invariant.0.small)
+returns c = (unfold sample_at in reading_end c.loop-byte.invariant c.in-None.ensures.steps.0, reading_small c.loop-byte.invariant)

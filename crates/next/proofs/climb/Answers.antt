@@ -1,7 +1,7 @@
 -- `climb` meets its contract. The loop keeps: the 1s left to drop lead to the same cell.
 use native.Mathlib.Omega.{arith}
 use Rattle.dimension.specs.Laws.{axes_range, split_sub, split_fits, split_rest}
-use Rattle.next.specs.Climbing.{loop_start, loop_end, loop_small, loop_some, loop_boxes, loop_place, loop_turn, loop_more}
+use Rattle.next.specs.Climbing.{loop_start, loop_end, loop_small, loop_some, loop_boxes, loop_turn, loop_more}
 use borrow.Author.Rules.{rules}
 use Rattle.next.proofs.climb.Goals as goal
 
@@ -22,9 +22,6 @@ boxes_above-boxes-requires c = search (rules, loop_boxes)
 
 pub place_above-k-requires : goal.place_above-k-requires
 place_above-k-requires c = search (rules, loop_small)
-
-pub overflow_sub-k-in-loop-left : goal.overflow_sub-k-in-loop-left
-overflow_sub-k-in-loop-left c = search (rules, loop_place)
 
 pub turned_back-back-requires : goal.turned_back-back-requires
 turned_back-back-requires c = loop_turn c.loop-left.invariant c.loop-left-test.true c.place_above-k.ensures

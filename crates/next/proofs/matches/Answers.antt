@@ -5,8 +5,8 @@ use Rattle.next.specs.Matching.{other_dimension, not_inside, too_deep, no_room, 
 use borrow.Author.Rules.{rules}
 use Rattle.next.proofs.matches.Goals as goal
 
-pub returns-then-size-axes : goal.returns-then-size-axes
-returns-then-size-axes c = search (rules, other_dimension)
+pub returns-then-from-axes : goal.returns-then-from-axes
+returns-then-from-axes c = search (rules, other_dimension)
 
 pub returns-then-depth-next : goal.returns-then-depth-next
 returns-then-depth-next c = search (rules, not_inside)
@@ -14,17 +14,11 @@ returns-then-depth-next c = search (rules, not_inside)
 pub returns-then-greatest_depth-depth : goal.returns-then-greatest_depth-depth
 returns-then-greatest_depth-depth c = search (rules, too_deep)
 
-pub overflow_add-length : goal.overflow_add-length
-overflow_add-length c = omega (arith, axes_range c.args.dim)
-
 pub overflow_add-length-2 : goal.overflow_add-length-2
 overflow_add-length-2 c = search (rules, axes_range, length_fits)
 
 pub returns-then-bytes-length : goal.returns-then-bytes-length
 returns-then-bytes-length c = search (rules, no_room)
-
-pub entries_of-requires : goal.entries_of-requires
-entries_of-requires c = let range = axes_range c.args.dim in (omega arith, omega arith, omega arith)
 
 pub returns-then-not-same : goal.returns-then-not-same
 returns-then-not-same c = search (rules, other_entries)

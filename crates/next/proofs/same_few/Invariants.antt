@@ -1,10 +1,6 @@
 -- `same_few` meets its contract. The loop keeps: all are the same exactly where the rest is.
-use Prim.Native.Nat.{◌-◌}
 use Rattle.next.specs.Digits.{Comparing}
 use Rattle.next.proofs.same_few.Given as goal
 
 abbrev pub invariant-loop-i : goal.invariant-loop-i
 invariant-loop-i l = Comparing l.n l.at l.bytes l.boxes l.i l.left
-
-abbrev pub decreases-loop-i : goal.decreases-loop-i
-decreases-loop-i l = l.n - l.i

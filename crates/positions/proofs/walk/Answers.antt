@@ -1,7 +1,7 @@
 -- `walk` meets its contract. The loop keeps: the steps taken back are the path's end, start is where it leads, and k and
 -- boxes are those of the depth.
-use Rattle.steps.specs.Climbs.{rise_boxes, rise_place, rise_room, rise_some, rise_ready}
-use Rattle.positions.specs.Walks.{walk_none, walk_next, walk_done, walk_weight, walk_start, walk_double}
+use Rattle.steps.specs.Climbs.{rise_boxes, rise_place, rise_room, rise_ready}
+use Rattle.positions.specs.Walks.{walk_none, walk_next, walk_double}
 use borrow.Author.Rules.{rules}
 use Rattle.positions.proofs.walk.Goals as goal
 
@@ -17,23 +17,11 @@ place_above-k-requires c = search (rules, rise_place)
 pub own_of-own-requires : goal.own_of-own-requires
 own_of-own-requires c = rise_room c.loop-t.invariant.rising c.loop-t-test.true c.boxes_above-boxes.ensures
 
-pub overflow_sub-k : goal.overflow_sub-k
-overflow_sub-k c = rise_some c.loop-t.invariant.rising c.loop-t-test.true c.place_above-k.ensures
-
 pub unstep-back-requires : goal.unstep-back-requires
 unstep-back-requires c = rise_ready c.loop-t.invariant.rising c.loop-t-test.true c.place_above-k.ensures
-
-pub overflow_mul-start : goal.overflow_mul-start
-overflow_mul-start c = search (rules, walk_weight)
-
-pub overflow_add-start : goal.overflow_add-start
-overflow_add-start c = search (rules, walk_start)
 
 pub overflow_mul-half : goal.overflow_mul-half
 overflow_mul-half c = search (rules, walk_double)
 
 pub loop-t-preserved : goal.loop-t-preserved
-loop-t-preserved c = walk_next c.loop-t.invariant c.loop-t-test.true c.place_above-k.ensures c.boxes_above-boxes.ensures c.own_of-own.ensures c.unstep-back.ensures c.wide.ensures
-
-pub returns : goal.returns
-returns c = search (rules, walk_done)
+loop-t-preserved c = walk_next c.loop-t.invariant c.loop-t-test.true c.place_above-k.ensures c.boxes_above-boxes.ensures c.own_of-own.ensures c.unstep-back.ensures c.from.ensures

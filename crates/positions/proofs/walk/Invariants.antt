@@ -5,7 +5,4 @@ use Rattle.positions.specs.Walks.{Walked}
 use Rattle.positions.proofs.walk.Given as goal
 
 abbrev pub invariant-loop-t : goal.invariant-loop-t
-invariant-loop-t l = Walked l.axes l.depth l.code (bytes_of l.initial.root) l.t l.k l.boxes (bytes_of l.root) l.start l.half
-
-abbrev pub decreases-loop-t : goal.decreases-loop-t
-decreases-loop-t l = l.t
+invariant-loop-t l = Walked l.axes l.depth l.code (bytes_of l.initial.root) l._t l.k l.boxes (bytes_of l.root) l.start l.half

@@ -1,6 +1,7 @@
 -- The first record of a good sheet: it passes its own tests, and is of the sheet's dimension.
 use Rattle.std.specs.Prelude.{◌≡◌, refl, List, ℕ, ◌<◌, length}
 use Rattle.std.proofs.Common.{sym, ap, ◌∙◌, arith}
+use Rattle.dimension.specs.Sizes.{axes_of}
 use Rattle.bisection.specs.Refusals.{done}
 use Rattle.codes.specs.Fronts.{front_dimension, front_code}
 use Rattle.codes.specs.Fronts.Laws.{front_code_dimension, front_root}
@@ -21,7 +22,7 @@ module _ {mark : List ℕ} {width : ℕ} {sheet : List ℕ} {records : ℕ} (goo
   -- the first record passes its own tests, and is of the sheet's dimension
   pub record First : Type 0 where
     pub passes : record_refusal mark width sheet ≡ done
-    pub dimension_is : (p : RecordParts) → PartsAre mark width sheet p → p.dimension ≡ good.dimension
+    pub dimension_is : (p : RecordParts) → PartsAre mark width sheet p → axes_of p.dim ≡ good.dimension
 
   pub first_record : First
   first_record = go (good_some good) cells_in good_listed refl

@@ -1,15 +1,11 @@
 -- `descend` meets its contract: each step goes on the way.
-use native.Mathlib.Omega.{arith}
 use native.Mathlib.Numerals.{add-one}
-use Rattle.ways.specs.Descents.{descend_start, down_ready, double_fits, position_fits, descend_next, descend_end}
+use Rattle.ways.specs.Descents.{descend_start, down_ready, double_fits, position_fits, descend_next}
 use borrow.Author.Rules.{rules}
 use Rattle.ways.proofs.descend.Goals as goal
 
 pub loop-i-init : goal.loop-i-init
-loop-i-init c = descend_start c.requires.0 c.requires.1
-
-pub split_place-requires : goal.split_place-requires
-split_place-requires c = tt
+loop-i-init c = search (rules, descend_start)
 
 pub step_down-s-requires : goal.step_down-s-requires
 step_down-s-requires c = search (rules, down_ready)
@@ -20,14 +16,5 @@ overflow_mul-position c = search (rules, double_fits)
 pub overflow_add-position : goal.overflow_add-position
 overflow_add-position c = search (rules, position_fits)
 
-pub overflow_add-i : goal.overflow_add-i
-overflow_add-i c = omega arith
-
-pub loop-i-smaller : goal.loop-i-smaller
-loop-i-smaller c = omega arith
-
 pub loop-i-preserved : goal.loop-i-preserved
 loop-i-preserved c = rw add-one (search (rules, descend_next))
-
-pub returns : goal.returns
-returns c = descend_end c.loop-i.invariant (omega arith)

@@ -1,25 +1,20 @@
--- `is_root` meets its contract. The loop keeps: no byte before i has a sign.
-use Rattle.std.proofs.Common.{not}
-use mathlib.Core.Path.{sym, ap, ◌∙◌}
-use native.Mathlib.Omega.{arith}
-use Rattle.entries.specs.Walks.{plain_none, plain_next, plain_fail, plain_all, root_permutes}
+-- `is_root` meets its contract.
+use Rattle.std.proofs.Common.{◌≡◌, true, false, not}
+use Rattle.std.proofs.lemmas.Iterator.{cases_from_all, YieldsList-from_slice}
+use borrow.Author.Rules.{rules}
+use borrow.Author.Tests.{tests}
+use Rattle.bisection.specs.Codes.{minus}
+use Rattle.entries.specs.Walks.{each_all, root_plain, root_not}
 use Rattle.entries.specs.Words.{none_behind}
 use Rattle.entries.proofs.check.is_root.Goals as goal
 
 pub permuted-requires : goal.permuted-requires
 permuted-requires c = (c.requires.0, c.requires.1, none_behind c.args.root.now c.first_word.ensures.bytes)
 
-pub returns-then-not-permuted : goal.returns-then-not-permuted
-returns-then-not-permuted c = root_permutes c.args.root.now c.requires.1 c.first_word.ensures.bytes c.permuted.ensures (ap not c.if-not-permuted.true)
+pub returns-then-permuted : goal.returns-then-permuted
+returns-then-permuted c = root_plain c.args.root.now c.requires.1 c.first_word.ensures.bytes c.permuted.ensures c.if-permuted.true
+    (each_all (λ e. not (minus e)) c.args.root.now (cases_from_all _ _ _ (λ e. not (minus e) ≡ true) (λ e. not (minus e) ≡ false) c.all.ensures.ran
+    (YieldsList-from_slice c.args.root.now cc) (λ x q k. search (rules, tests)) (λ x q k. search (rules, tests))))
 
-pub loop-i-init : goal.loop-i-init
-loop-i-init c = (omega arith, plain_none _)
-
-pub returns-then-is_minus : goal.returns-then-is_minus
-returns-then-is_minus c = plain_fail c.loop-i.invariant.1 c.loop-i-test.true (sym c.is_minus.ensures ∙ c.if-is_minus.true)
-
-pub loop-i-preserved : goal.loop-i-preserved
-loop-i-preserved c = (omega arith, plain_next c.loop-i.invariant.1 (sym c.is_minus.ensures ∙ c.if-is_minus.false))
-
-pub returns : goal.returns
-returns c = plain_all c.loop-i.invariant.1 c.requires.1 c.first_word.ensures.bytes c.permuted.ensures (ap not c.if-not-permuted.false) c.loop-i.invariant.0 (omega arith)
+pub returns-else-permuted : goal.returns-else-permuted
+returns-else-permuted c = root_not c.args.root.now c.requires.1 c.first_word.ensures.bytes c.permuted.ensures c.if-permuted.false

@@ -1,19 +1,14 @@
 -- `permuted` meets its contract.
 use mathlib.Core.Path.{refl}
-use lib.Pow.{pow_pos}
-use native.Mathlib.Omega.{arith}
-use Rattle.entries.specs.Masks.{shifted_bit}
-use Rattle.entries.specs.Marks.{none_past, one_past, permuted_all}
+use Rattle.entries.specs.Marks.{have_bits, joined_marks, none_past, one_past, permuted_all}
+use borrow.Author.Rules.{rules}
 use Rattle.entries.proofs.check.permuted.Goals as goal
 
-pub returns-then-entries-ne0 : goal.returns-then-entries-ne0
-returns-then-entries-ne0 c = one_past c.args.entries c.requires.1 c.requires.2 c.if-entries-ne0.true
+pub marks_in-requires : goal.marks_in-requires
+marks_in-requires c = search (rules, none_past, have_bits)
 
-pub axes_in-requires : goal.axes_in-requires
-axes_in-requires c = none_past _ c.if-entries-ne0.false
+pub returns-then-entries-eq0 : goal.returns-then-entries-eq0
+returns-then-entries-eq0 c = permuted_all refl c.requires.1 c.requires.2 (joined_marks (λ x. x) (λ x y e. e) c.marks_in.ensures)
 
-pub overflow_sub-result : goal.overflow_sub-result
-overflow_sub-result c = rw (shifted_bit 32 c.args.d (omega (arith, c.requires.1))) (pow_pos c.args.d)
-
-pub returns : goal.returns
-returns c = permuted_all refl c.requires.1 c.requires.2 c.axes_in.ensures
+pub returns-else-entries-eq0 : goal.returns-else-entries-eq0
+returns-else-entries-eq0 c = search (rules, one_past)

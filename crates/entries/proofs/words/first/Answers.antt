@@ -1,6 +1,7 @@
 -- `first` meets its contract.
 use Rattle.entries.specs.Words.{first_of_is}
+use borrow.Author.Rules.{rules}
 use Rattle.entries.proofs.words.first.Goals as goal
 
 pub returns : goal.returns
-returns c = first_of_is c.args.w c.requires.1
+returns c = search (rules, first_of_is)

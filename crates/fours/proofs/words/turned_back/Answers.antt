@@ -14,7 +14,7 @@ pub overflow_add-result : goal.overflow_add-result
 overflow_add-result c = search (rules, rest_fits)
 
 pub overflow_add-result-2 : goal.overflow_add-result-2
-overflow_add-result-2 c = search (rules, turned_fits)
+overflow_add-result-2 c = record { fits = turned_fits c.args.w (search rules) c.from.result (search rules) c.args.n c.requires }
 
 pub returns : goal.returns
-returns c = turned_is c.args.w (search rules) _ c.wide.ensures.1 c.args.n c.requires (c.wide.ensures.0 ∙ c.negate-first.ensures)
+returns c = turned_is c.args.w (search rules) _ (search rules) c.args.n c.requires (c.from.ensures ∙ c.negate-first.ensures)

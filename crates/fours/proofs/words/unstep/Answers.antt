@@ -11,4 +11,4 @@ same_sign-same-requires c = rw c.byte_at.ensures (c.requires.1, c.requires.2)
 
 pub returns : goal.returns
 returns c = let told = c.same_sign-same.ensures ∙ ap (λ (x : ℕ). same_sign (minus x) (high c.args.own (axis x))) c.byte_at.ensures in
-    rw (c.pick_word.ensures, c.pick.ensures) (unstep_is c.args.w c.turned_back-turned.result c.args.n c.args.own c.same_sign-same.result told c.turned_back-turned.ensures)
+    rw (c.pick.ensures, c.pick-2.ensures) (unstep_is c.args.w c.turned_back-turned.result c.args.n c.args.own c.same_sign-same.result told c.turned_back-turned.ensures)

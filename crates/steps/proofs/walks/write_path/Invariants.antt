@@ -5,7 +5,4 @@ use Rattle.steps.specs.Climbs.{Rising}
 use Rattle.steps.proofs.walks.write_path.Given as goal
 
 abbrev pub invariant-loop-t : goal.invariant-loop-t
-invariant-loop-t l = Rising l.axes l.depth l.code (bytes_of l.initial.entries) l.initial.path l.t l.k l.boxes (bytes_of l.entries) l.path
-
-abbrev pub decreases-loop-t : goal.decreases-loop-t
-decreases-loop-t l = l.t
+invariant-loop-t l = Rising l.axes l.depth l.bytes (bytes_of l.initial.entries) l.initial.path l.t l.k l.boxes (bytes_of l.entries) l.path

@@ -1,0 +1,2 @@
+-- The table of the roots holds them.
+pub mod RootRows
