@@ -25,12 +25,11 @@ pub fn put_decimal(out: &mut [u8], at: usize, n: usize) -> usize
 }
 
 // A digit below 16.
-#[tactic(auto, unfolding(crate::specs::Texts::digit))]
 fn digit(n: u8) -> u8
     requires { n < 16 }
     ensures { result ≡ Texts·digit n }
 {
-    if n < 10 { b'0' + n } else { b'a' + (n - 10) }
+    b"0123456789abcdef"[usize::from(n)]
 }
 
 // Puts bytes in hex.
@@ -38,9 +37,9 @@ pub fn put_hex(out: &mut [u8], at: usize, bytes: &[u8]) -> usize
     requires { at + 2 * length bytes.now ≤ length out.old }
     ensures { Puts at (Texts·hex bytes.now) out.old result out.new }
 {
-    for (i, b) in bytes.iter().enumerate() {
-        out[at + 2 * i] = digit(*b / 16);
-        out[at + 2 * i + 1] = digit(*b % 16);
+    for (i, &b) in bytes.iter().enumerate() {
+        out[at + 2 * i] = digit(b / 16);
+        out[at + 2 * i + 1] = digit(b % 16);
     }
     at + 2 * bytes.len()
 }
