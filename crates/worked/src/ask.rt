@@ -1,111 +1,113 @@
 // Each entry asked: what it is asked and what it answers, on one line.
 use crate::say;
-use crate::say::{Code, Digits, Pairs};
+use crate::say::{Code, Digits, Out, Pairs};
 use dimension::Dim;
-use std::io;
-use std::io::Write;
+use std::fmt;
+use std::fmt::Write;
 
 // The check of a code.
-pub fn checked(rt: &impl Print, case: &str, code: &[u8]) -> io::Result<()> {
-    print!(rt; "{case}: code {}: ", Code(code))?;
+pub fn checked(to: &mut Out, case: &str, code: &[u8]) -> fmt::Result {
+    write!(to, "{case}: code {}: ", Code(code))?;
     match codes::code_check(code) {
-        Ok(()) => println!(rt; "good"),
-        Err(refusal) => say::refused(rt, refusal),
+        Ok(()) => writeln!(to, "good"),
+        Err(refusal) => say::refused(to, refusal),
     }
 }
 
 // The code of a root and a path.
-pub fn coded(rt: &impl Print, case: &str, root: &[u8], path: &[u8]) -> io::Result<()> {
-    print!(rt; "{case}: root {} path {}: ", Digits(root), Digits(path))?;
+pub fn coded(to: &mut Out, case: &str, root: &[u8], path: &[u8]) -> fmt::Result {
+    write!(to, "{case}: root {} path {}: ", Digits(root), Digits(path))?;
     let mut code = [0u8; Dim::LONGEST_CODE];
     match codes::path_to_code(root, path, &mut code) {
-        Ok(length) => println!(rt; "{}", Code(&code[..length])),
-        Err(refusal) => say::refused(rt, refusal),
+        Ok(length) => writeln!(to, "{}", Code(&code[..length])),
+        Err(refusal) => say::refused(to, refusal),
     }
 }
 
 // A child.
-pub fn child(rt: &impl Print, case: &str, code: &[u8], which: u8) -> io::Result<()> {
-    print!(rt; "{case}: child {which} of {}: ", Code(code))?;
+pub fn child(to: &mut Out, case: &str, code: &[u8], which: u8) -> fmt::Result {
+    write!(to, "{case}: child {which} of {}: ", Code(code))?;
     let mut out = [0u8; Dim::LONGEST_CODE];
     match codes::child(code, which, &mut out) {
-        Ok(length) => println!(rt; "{}", Code(&out[..length])),
-        Err(refusal) => say::refused(rt, refusal),
+        Ok(length) => writeln!(to, "{}", Code(&out[..length])),
+        Err(refusal) => say::refused(to, refusal),
     }
 }
 
 // Crossing a facet.
-pub fn crossed(rt: &impl Print, case: &str, code: &[u8], facet: u8) -> io::Result<()> {
-    print!(rt; "{case}: {} across {facet}: ", Code(code))?;
+pub fn crossed(to: &mut Out, case: &str, code: &[u8], facet: u8) -> fmt::Result {
+    write!(to, "{case}: {} across {facet}: ", Code(code))?;
     let mut out = [0u8; Dim::LONGEST_CODE];
     match crossing::cross(code, facet, &mut out) {
-        Ok(to) => {
-            let new = to.vertex;
-            println!(rt;
+        Ok(landed) => {
+            let new = landed.vertex;
+            writeln!(
+                to,
                 "place {}, vertex {} {} {} {}, of {}",
-                to.place,
+                landed.place,
                 new.first,
                 new.second,
                 new.third,
                 new.fourth,
-                Code(&out[..to.length])
+                Code(&out[..landed.length])
             )
         }
-        Err(refusal) => say::refused(rt, refusal),
+        Err(refusal) => say::refused(to, refusal),
     }
 }
 
 // The check of a sheet.
-pub fn sheet(rt: &impl Print, case: &str, bytes: &[u8]) -> io::Result<()> {
-    print!(rt; "{case}: ")?;
+pub fn sheet(to: &mut Out, case: &str, bytes: &[u8]) -> fmt::Result {
+    write!(to, "{case}: ")?;
     match sheets::sheet_check(bytes) {
-        Ok(records) => println!(rt; "records {records}"),
-        Err(refused) => say::refused_at(rt, refused),
+        Ok(records) => writeln!(to, "records {records}"),
+        Err(refused) => say::refused_at(to, refused),
     }
 }
 
 // The leaf at a point, in dimension 2, and its weights.
-pub fn leaf(rt: &impl Print, sheet: &[u8], point: &[u8]) -> io::Result<()> {
-    print!(rt; "leaf at{}: ", Pairs(point))?;
+pub fn leaf(to: &mut Out, sheet: &[u8], point: &[u8]) -> fmt::Result {
+    write!(to, "leaf at{}: ", Pairs(point))?;
     let mut weights = [0u8; 6];
     match queries::leaf_at(sheet, point, &mut weights) {
-        Ok(leaf) => println!(rt; "record {} weights{}", leaf.number, Pairs(&weights)),
-        Err(refused) => say::refused(rt, refused.refusal),
+        Ok(leaf) => writeln!(to, "record {} weights{}", leaf.number, Pairs(&weights)),
+        Err(refused) => say::refused(to, refused.refusal),
     }
 }
 
 // The grey value there.
-pub fn value(rt: &impl Print, sheet: &[u8], point: &[u8]) -> io::Result<()> {
-    print!(rt; "value at{}: ", Pairs(point))?;
+pub fn value(to: &mut Out, sheet: &[u8], point: &[u8]) -> fmt::Result {
+    write!(to, "value at{}: ", Pairs(point))?;
     match queries::value_at(sheet, point) {
-        Ok(value) => println!(rt; "{value}"),
-        Err(refused) => say::refused(rt, refused.refusal),
+        Ok(value) => writeln!(to, "{value}"),
+        Err(refused) => say::refused(to, refused.refusal),
     }
 }
 
 // The slope there, on each axis.
-pub fn slope(rt: &impl Print, case: &str, sheet: &[u8], point: &[u8]) -> io::Result<()> {
-    print!(rt; "{case}: slope at{}: ", Pairs(point))?;
+pub fn slope(to: &mut Out, case: &str, sheet: &[u8], point: &[u8]) -> fmt::Result {
+    write!(to, "{case}: slope at{}: ", Pairs(point))?;
     match queries::slope_at(sheet, point) {
-        Ok(on) => say::slopes(rt, on),
-        Err(refused) => say::refused(rt, refused.refusal),
+        Ok(on) => say::slopes(to, on),
+        Err(refused) => say::refused(to, refused.refusal),
     }
 }
 
 // Whether a sheet is compatible.
-pub fn compatible(rt: &impl Print, case: &str, bytes: &[u8]) -> io::Result<()> {
-    print!(rt; "{case}: ")?;
+pub fn compatible(to: &mut Out, case: &str, bytes: &[u8]) -> fmt::Result {
+    write!(to, "{case}: ")?;
     match compatible::compatible(bytes) {
-        Ok(true) => println!(rt; "yes"),
-        Ok(false) => println!(rt; "no"),
-        Err(refused) => say::refused_at(rt, refused),
+        Ok(true) => writeln!(to, "yes"),
+        Ok(false) => writeln!(to, "no"),
+        Err(refused) => say::refused_at(to, refused),
     }
 }
 
 // What the listing program writes.
-pub fn listed(rt: &impl Print, bytes: &[u8]) -> io::Result<()> {
-    println!(rt; "listing of {} bytes:", bytes.len())?;
+pub fn listed(to: &mut Out, bytes: &[u8]) -> fmt::Result {
+    writeln!(to, "listing of {} bytes:", bytes.len())?;
     let mut text = [0u8; listing::TEXT_ROOM];
     let length = listing::list_sheet(bytes, &mut text);
-    io::writer(rt).write_all(&text[..length])
+    to.put(&text[..length]);
+    Ok(())
 }

@@ -3,4 +3,4 @@ use Rattle.worked.specs.Slopes.{slope_no_nan}
 use Rattle.worked.proofs.ask.slope.Goals as goal
 
 pub slopes-requires : goal.slopes-requires
-slopes-requires g c = slope_no_nan c.in-Ok.ensures
+slopes-requires c = slope_no_nan c.in-Ok.ensures
