@@ -8,9 +8,8 @@ pub fn put(out: &mut [u8], at: usize, bytes: &[u8]) -> usize
     requires { at + length bytes.now ≤ length out.old }
     ensures { Puts at bytes.now out.old result out.new }
 {
-    let end = at + bytes.len();
-    out[at..end].copy_from_slice(bytes);
-    end
+    common::copy(bytes, 0, bytes.len(), out, at);
+    at + bytes.len()
 }
 
 // Puts a number in decimal.
