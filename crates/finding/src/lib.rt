@@ -198,7 +198,7 @@ impl<'a> Sheet<'a> {
         requires { depth ≤ greatest_depth (axes_of self.dim) }
         ensures { result ≡ length (mark_of self.entry.edition) + (code_length (axes_of self.entry.dim) depth + self.entry.edition.width * suc (axes_of self.entry.dim)) }
     {
-        let samples = sheets::samples_length(self.edition.width, self.dim);
+        let samples = sheets::samples_length_in(self.edition.width, self.dim);
         sheets::MARK_LENGTH + (self.dim.code_length(depth) + samples)
     }
 

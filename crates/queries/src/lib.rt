@@ -170,7 +170,7 @@ fn grey_at(sheet: Sheet, point: &[u8]) -> f64
     let chosen = record_at(sheet, point);
     let width = sheet.edition.width;
     let start = chosen.samples;
-    let end = start + sheets::samples_length(width, sheet.dim);
+    let end = start + sheets::samples_length_in(width, sheet.dim);
     let found = chosen.weights;
     greys::grey(&sheet.bytes[start..end], width, found, sheet.dim)
 }
@@ -192,7 +192,7 @@ fn slopes_at(sheet: Sheet, point: &[u8]) -> Slopes
     let leaf = first_leaf(sheet, point);
     let code = leaf.offset + sheets::MARK_LENGTH;
     let samples = code + sheet.dim.code_length(leaf.depth);
-    let end = samples + sheets::samples_length(width, sheet.dim);
+    let end = samples + sheets::samples_length_in(width, sheet.dim);
     let bytes = sheet.bytes;
     let code = Code::known(&bytes[code..samples]);
     slopes::in_cell(&code, &bytes[samples..end], width)

@@ -96,11 +96,18 @@ fn behind_mark(edition: Edition, bytes: &[u8]) -> Option<&[u8]>
     Some(rest)
 }
 
-// How many bytes the samples of a record have.
-pub fn samples_length(width: u8, dim: Dim) -> usize
+// How many bytes the samples of a record have, in so many axes.
+pub fn samples_length(width: u8, dimension: u8) -> usize
+    ensures { (result ≡ width * suc dimension) × (result ≤ 65536) }
+{
+    usize::from(width) * (usize::from(dimension) + 1)
+}
+
+// The same in a dimension that is built.
+pub fn samples_length_in(width: u8, dim: Dim) -> usize
     ensures { (result ≡ width * suc (axes_of dim)) × (result ≤ 65536) }
 {
-    usize::from(width) * (dim.axes() + 1)
+    samples_length(width, dim.axes() as u8)
 }
 
 // The tests behind the mark, in document 01's order.
@@ -114,7 +121,7 @@ fn body_check(width: u8, bytes: &[u8]) -> Result<(), Refusal>
         return Err(Refusal::Record);
     };
     codes::code_body(code)?;
-    if bytes.len() < head.length + samples_length(width, head.dim) {
+    if bytes.len() < head.length + samples_length_in(width, head.dim) {
         return Err(Refusal::Record);
     }
     Ok(())
@@ -140,7 +147,7 @@ pub fn record_parts(edition: Edition, bytes: &[u8]) -> RecordParts
     RecordParts {
         dim: head.dim,
         code: head.length,
-        whole: MARK_LENGTH + (head.length + samples_length(edition.width, head.dim)),
+        whole: MARK_LENGTH + (head.length + samples_length_in(edition.width, head.dim)),
     }
 }
 
@@ -174,7 +181,7 @@ fn fits(edition: Edition, state: State, bytes: &[u8]) -> Option<Match>
     }
     let rest = behind_mark(edition, bytes)?;
     let code = next::matches(state.next, state.dim, rest)?;
-    if rest.len() < code.length + samples_length(edition.width, state.dim) {
+    if rest.len() < code.length + samples_length_in(edition.width, state.dim) {
         return None;
     }
     Some(code)
@@ -186,7 +193,7 @@ fn moved(edition: Edition, state: State, found: Match) -> State
     ensures { MoveIs edition.width state found result }
 {
     let dim = state.dim;
-    let samples = samples_length(edition.width, dim);
+    let samples = samples_length_in(edition.width, dim);
     let offset = state.offset + (MARK_LENGTH + (found.length + samples));
     let records = state.records + 1;
     match next::after(state.next, dim, found.depth, found.boxes) {

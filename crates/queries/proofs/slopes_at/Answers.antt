@@ -9,19 +9,19 @@ pub overflow_add-samples : goal.overflow_add-samples
 overflow_add-samples c = omega (arith, stands_room c.first_leaf-leaf.ensures c.code_length.ensures)
 
 pub overflow_add-end : goal.overflow_add-end
-overflow_add-end c = omega (arith, slopes_end c.requires c.first_leaf-leaf.ensures c.code_length.ensures c.samples_length.ensures)
+overflow_add-end c = omega (arith, slopes_end c.requires c.first_leaf-leaf.ensures c.code_length.ensures c.samples_length_in.ensures)
 
 pub slice_bounds-known-end : goal.slice_bounds-known-end
 slice_bounds-known-end c = search (rules, code_end)
 
 pub known-code-requires : goal.known-code-requires
-known-code-requires c = slopes_code c.requires c.first_leaf-leaf.ensures c.code_length.ensures c.samples_length.ensures
+known-code-requires c = slopes_code c.requires c.first_leaf-leaf.ensures c.code_length.ensures c.samples_length_in.ensures
 
 pub slice_bounds-in_cell-end : goal.slice_bounds-in_cell-end
 slice_bounds-in_cell-end c = search (rules, slopes_end)
 
 pub in_cell-requires : goal.in_cell-requires
-in_cell-requires c = slopes_ready c.requires c.first_leaf-leaf.ensures c.code_length.ensures c.samples_length.ensures c.known-code.ensures
+in_cell-requires c = slopes_ready c.requires c.first_leaf-leaf.ensures c.code_length.ensures c.samples_length_in.ensures c.known-code.ensures
 
 pub returns : goal.returns
-returns c = slopes_are c.requires c.first_leaf-leaf.ensures c.code_length.ensures c.samples_length.ensures (rw c.known-code.ensures at c.in_cell.ensures)
+returns c = slopes_are c.requires c.first_leaf-leaf.ensures c.code_length.ensures c.samples_length_in.ensures (rw c.known-code.ensures at c.in_cell.ensures)

@@ -14,7 +14,7 @@ pub returns-in_err-code_body : goal.returns-in_err-code_body
 returns-in_err-code_body c = let law = body_inner c.args.width _ c.in_ok-head.ensures c.in-Some.ensures.lookup.0.1 c.in-Some.ensures.lookup.0.2 in search (rules, law)
 
 pub returns-then-bytes-head : goal.returns-then-bytes-head
-returns-then-bytes-head c = body_samples _ _ c.in_ok-head.ensures c.in-Some.ensures.lookup.0.1 c.in-Some.ensures.lookup.0.2 c.in_ok-code_body.ensures c.samples_length.ensures.0 c.if-bytes-head.true
+returns-then-bytes-head c = body_samples _ _ c.in_ok-head.ensures c.in-Some.ensures.lookup.0.1 c.in-Some.ensures.lookup.0.2 c.in_ok-code_body.ensures c.samples_length_in.ensures.0 c.if-bytes-head.true
 
 pub returns : goal.returns
-returns c = body_done _ _ c.in_ok-head.ensures c.in-Some.ensures.lookup.0.1 c.in-Some.ensures.lookup.0.2 c.in_ok-code_body.ensures c.samples_length.ensures.0 c.if-bytes-head.false
+returns c = body_done _ _ c.in_ok-head.ensures c.in-Some.ensures.lookup.0.1 c.in-Some.ensures.lookup.0.2 c.in_ok-code_body.ensures c.samples_length_in.ensures.0 c.if-bytes-head.false

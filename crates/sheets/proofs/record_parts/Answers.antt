@@ -16,10 +16,10 @@ pub unwrap-head-requires : goal.unwrap-head-requires
 unwrap-head-requires c = parts_headed _ _ _ c.requires _ (head_behind _ _ _ _ c.code_head.ensures)
 
 pub overflow_add-result : goal.overflow_add-result
-overflow_add-result c = omega (arith, parts_fit _ _ _ c.requires (head_known _ _ _ _ c.code_head.ensures c.unwrap-head.ensures) c.samples_length.ensures.0)
+overflow_add-result c = omega (arith, parts_fit _ _ _ c.requires (head_known _ _ _ _ c.code_head.ensures c.unwrap-head.ensures) c.samples_length_in.ensures.0)
 
 pub overflow_add-result-2 : goal.overflow_add-result-2
-overflow_add-result-2 c = omega (arith, parts_fit _ _ _ c.requires (head_known _ _ _ _ c.code_head.ensures c.unwrap-head.ensures) c.samples_length.ensures.0)
+overflow_add-result-2 c = omega (arith, parts_fit _ _ _ c.requires (head_known _ _ _ _ c.code_head.ensures c.unwrap-head.ensures) c.samples_length_in.ensures.0)
 
 pub returns : goal.returns
-returns c = parts_are _ _ _ c.requires (head_known _ _ _ _ c.code_head.ensures c.unwrap-head.ensures) c.samples_length.ensures.0
+returns c = parts_are _ _ _ c.requires (head_known _ _ _ _ c.code_head.ensures c.unwrap-head.ensures) c.samples_length_in.ensures.0
