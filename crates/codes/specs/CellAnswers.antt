@@ -1,5 +1,5 @@
 -- The outcomes of writing a cell's vertices: one law for each way out of the code.
-use Rattle.std.specs.Prelude.{◌≡◌, List, ◌++◌, ℕ, Ok, Err, ◌≤◌, ◌<◌, length}
+use Rattle.std.specs.Prelude.{◌≡◌, List, ◌++◌, ◌≢◌, ℕ, Ok, Err, ◌≤◌, ◌<◌, length}
 use Rattle.std.proofs.Math.Path.{refl, sym, ap}
 use Rattle.std.proofs.Common.{◌∙◌, arith, le-leb}
 use Rattle.std.proofs.Math.ListN.{drop}
@@ -16,16 +16,22 @@ use Rattle.bisection.specs.Theorems.Ladders.{all_hold, holds, fails, past, stops
 use Rattle.bisection.proofs.Theorems.Ladders.{first_is}
 use Rattle.bisection.specs.Theorems.CodePaths.{root_of, path_of}
 use Rattle.bisection.proofs.Theorems.CodePaths.{code_path}
+use Rattle.codes.specs.declared.Written.{Written}
 use Rattle.codes.specs.Forms.{written}
 use Rattle.codes.specs.Outcomes.{Vertices, vertices_refusal}
-use Rattle.codes.specs.Writing.{refused_answers, done_answers}
+use Rattle.codes.specs.Writing.{number_answers, refused_answers, done_answers}
 use Rattle.corners.specs.Drawing.{CellWritten, cell_long}
 
 -- the ways out, in document 01's order
 module _ (code before : List ℕ) where
-  pub vertices_own : (x : Refusal) → number_of x ≡ code_refusal code → Vertices code before (written (Err x)) before
+  -- the code's own number, and any answer that tells it
+  pub vertices_told : {x : ℕ} {r : Written} → x ≡ code_refusal code → x ≢ done → (r.refusal ≡ x) × (r.length ≡ 0) → Vertices code before r before
   unfolding vertices_refusal
-  vertices_own x e = refused_answers x (first_is (stops (sym e) (refuses x)))
+  vertices_told e n f = number_answers (first_is (stops (sym e) n)) n f
+
+  -- a refusal that is the code's own
+  pub vertices_own : (x : Refusal) → number_of x ≡ code_refusal code → Vertices code before (written (Err x)) before
+  vertices_own x e = vertices_told e (refuses x) (refl, refl)
 
   -- as the code has the code's refusal, its dimension and the points' length
   module _ {d n : ℕ} (e : done ≡ code_refusal code) (axes : d ≡ dimension_of code) (long : n ≡ points_length d) where

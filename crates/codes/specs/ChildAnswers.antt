@@ -1,5 +1,5 @@
 -- The child: one law for each way out of the code, and that it is the code of the path with one step more.
-use Rattle.std.specs.Prelude.{◌≡◌, refl, List, ◌++◌, ℕ, Ok, Err, suc, ◌+◌, ◌≤◌, ◌<◌, length}
+use Rattle.std.specs.Prelude.{◌≡◌, refl, List, ◌++◌, ◌≢◌, ℕ, Ok, Err, suc, ◌+◌, ◌≤◌, ◌<◌, length}
 use Rattle.std.proofs.Common.{sym, ◌∙◌, arith, add-one, length-append, le-leb, lt-ltb, le-ltb}
 use Rattle.std.proofs.Math.Path.{ap}
 use Rattle.std.proofs.Math.ListN.{drop}
@@ -18,9 +18,10 @@ use Rattle.bisection.proofs.Theorems.Passing.{step_passes}
 use Rattle.bisection.specs.Theorems.CodePaths.{child_code, root_of, path_of}
 use Rattle.bisection.proofs.Theorems.CodePaths.{code_path, child_code_is}
 use Rattle.entries.specs.Passed.{Checked, checked}
+use Rattle.codes.specs.declared.Written.{Written}
 use Rattle.codes.specs.Forms.{written}
 use Rattle.codes.specs.Outcomes.{Child, ChildOf, child_refusal}
-use Rattle.codes.specs.Writing.{refused_answers, done_answers}
+use Rattle.codes.specs.Writing.{number_answers, refused_answers, done_answers}
 
 -- the child's code has the length that its depth gives
 pub child_length : (code : List ℕ) (b : ℕ) → code_refusal code ≡ done → code_length (dimension_of code) (suc (depth_of code)) ≡ length (child_code b code)
@@ -41,9 +42,14 @@ child_of code which e =
 
 -- the ways out, in document 01's order
 module _ (code : List ℕ) (which : ℕ) (before : List ℕ) where
-  pub child_own : (x : Refusal) → number_of x ≡ code_refusal code → Child code which before (written (Err x)) before
+  -- the code's own number, and any answer that tells it
+  pub child_told : {x : ℕ} {r : Written} → x ≡ code_refusal code → x ≢ done → (r.refusal ≡ x) × (r.length ≡ 0) → Child code which before r before
   unfolding child_refusal
-  child_own x e = refused_answers x (first_is (stops (sym e) (refuses x)))
+  child_told e n f = number_answers (first_is (stops (sym e) n)) n f
+
+  -- a refusal that is the code's own
+  pub child_own : (x : Refusal) → number_of x ≡ code_refusal code → Child code which before (written (Err x)) before
+  child_own x e = child_told e (refuses x) (refl, refl)
 
   -- as the code has the code's refusal
   module _ (e : done ≡ code_refusal code) where

@@ -4,6 +4,7 @@ use Rattle.std.specs.Prelude.{◌≡◌, refl, List, [], ◌∷◌, ◌++◌, �
 use Rattle.std.proofs.Common.{sym, ap, ◌∙◌}
 use Rattle.std.proofs.Math.Decide.{ℕ_discrete}
 use Rattle.bisection.specs.declared.Refusal.{Refusal}
+use Rattle.bisection.specs.Numbers.{refusal_in}
 use Rattle.bisection.specs.NumberLaws.{refuses, one_refusal}
 use Rattle.bisection.specs.Refusals.{code_refusal}
 use Rattle.bisection.proofs.Theorems.CodePaths.{one_path}
@@ -93,6 +94,12 @@ code_to_path_determined {code} {roots} {paths} {root} {path} {root'} {path'} {r}
     go (no e) = let n = c.refused e in let n' = c'.refused e in (same (n.0 ∙ sym n'.0) (n.1 ∙ sym n'.1), n.2 ∙ sym n'.2, n.3 ∙ sym n'.3)
 
 -- the form that a C program has of an answer loses nothing
+pub one_refusal_in : (r r' : Result Unit Refusal) → refusal_in r ≡ refusal_in r' → r ≡ r'
+one_refusal_in (Ok n) (Ok m) e = refl
+one_refusal_in (Ok n) (Err y) e = absurd (refuses y (sym e))
+one_refusal_in (Err x) (Ok m) e = absurd (refuses x e)
+one_refusal_in (Err x) (Err y) e = ap Err (one_refusal x y e)
+
 pub one_written : (r r' : Result ℕ Refusal) → written r ≡ written r' → r ≡ r'
 one_written (Ok n) (Ok m) e = ap Ok (ap (λ (w : Written). w.length) e)
 one_written (Ok n) (Err y) e = absurd (refuses y (sym (ap (λ (w : Written). w.refusal) e)))

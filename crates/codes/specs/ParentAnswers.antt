@@ -22,9 +22,10 @@ use Rattle.bisection.proofs.Theorems.Paths.{path_suc}
 use Rattle.bisection.specs.Theorems.CodePaths.{parent_code, root_of, path_of}
 use Rattle.bisection.proofs.Theorems.CodePaths.{code_path, parent_code_is}
 use Rattle.entries.specs.Passed.{Checked, checked}
+use Rattle.codes.specs.declared.Written.{Written}
 use Rattle.codes.specs.Forms.{written}
 use Rattle.codes.specs.Outcomes.{parent_refusal, Parent, ParentOf}
-use Rattle.codes.specs.Writing.{refused_answers, done_answers}
+use Rattle.codes.specs.Writing.{number_answers, refused_answers, done_answers}
 
 -- the parent's code is that of the path without its last step
 module _ (code : List ℕ) (e : code_refusal code ≡ done) (l : 0 < depth_of code) where
@@ -76,9 +77,14 @@ module _ (code : List ℕ) (e : code_refusal code ≡ done) (l : 0 < depth_of co
 
 -- the ways out, in document 01's order
 module _ (code before : List ℕ) where
-  pub parent_own : (x : Refusal) → number_of x ≡ code_refusal code → Parent code before (written (Err x)) before
+  -- the code's own number, and any answer that tells it
+  pub parent_told : {x : ℕ} {r : Written} → x ≡ code_refusal code → x ≢ done → (r.refusal ≡ x) × (r.length ≡ 0) → Parent code before r before
   unfolding parent_refusal
-  parent_own x e = refused_answers x (first_is (stops (sym e) (refuses x)))
+  parent_told e n f = number_answers (first_is (stops (sym e) n)) n f
+
+  -- a refusal that is the code's own
+  pub parent_own : (x : Refusal) → number_of x ≡ code_refusal code → Parent code before (written (Err x)) before
+  parent_own x e = parent_told e (refuses x) (refl, refl)
 
   -- as the code has the code's refusal and its depth
   module _ {D : ℕ} (e : done ≡ code_refusal code) (depth : D ≡ depth_of code) where

@@ -1,5 +1,5 @@
 -- Path to code and code to path: one law for each way out of the code.
-use Rattle.std.specs.Prelude.{◌≡◌, refl, Bool, true, false, not, List, ◌++◌, ◌⊎◌, ℕ, Result, Ok, Err, IsErrAnd, ◌≤◌, ◌<◌, leb, length, get_or}
+use Rattle.std.specs.Prelude.{◌≡◌, refl, Bool, true, false, not, List, ◌++◌, ◌⊎◌, ◌≢◌, ℕ, Result, Ok, Err, IsErrAnd, ◌≤◌, ◌<◌, leb, length, get_or}
 use Rattle.std.proofs.Common.{sym, ◌∙◌, subst, arith, inl, inr, length-append}
 use Rattle.std.proofs.Math.Path.{ap}
 use Rattle.std.proofs.Math.ListN.{drop}
@@ -22,6 +22,7 @@ use Rattle.bisection.proofs.Theorems.Checked.{both, each_at, permutes_signed}
 use Rattle.bisection.specs.Theorems.CodePaths.{root_of, path_of}
 use Rattle.bisection.proofs.Theorems.CodePaths.{name_passes, code_path, length_root, length_path_of}
 use Rattle.codes.specs.declared.Lengths.{Lengths}
+use Rattle.codes.specs.declared.PathWritten.{PathWritten}
 use Rattle.codes.specs.Forms.{written, path_written}
 use Rattle.codes.specs.Outcomes.{path_refusal, PathToCode, to_path_refusal, CodeToPath}
 use Rattle.codes.specs.Writing.{refused_writes, done_writes}
@@ -116,13 +117,23 @@ module _ (root path before : List ℕ) where
 
 -- code to path: the ways out
 module _ (code roots paths : List ℕ) where
-  refused : (x : Refusal) → to_path_refusal code (length roots) (length paths) ≡ number_of x → CodeToPath code roots paths (path_written (Err x)) roots paths
-  refused x e = record { number = sym e; refused = λ q. (refl, refl, refl, refl); written = λ q. absurd (refuses x (sym e ∙ q)) }
+  number_refused : {number : ℕ} {r : PathWritten} → to_path_refusal code (length roots) (length paths) ≡ number → number ≢ done
+      → (r.refusal ≡ number) × (r.axes ≡ 0) × (r.depth ≡ 0) → CodeToPath code roots paths r roots paths
+  number_refused e n f = record { number = f.0 ∙ sym e; refused = λ q. (f.1, f.2, refl, refl); written = λ q. absurd (n (sym e ∙ q)) }
 
-  pub to_path_own : (r : Result Lengths Refusal) (x : Refusal) → IsErrAnd r (λ y. y ≡ x) → number_of x ≡ code_refusal code → CodeToPath code roots paths (path_written r) roots paths
+  refused : (x : Refusal) → to_path_refusal code (length roots) (length paths) ≡ number_of x → CodeToPath code roots paths (path_written (Err x)) roots paths
+  refused x e = number_refused e (refuses x) (refl, refl, refl)
+
+  -- the code's own number, and any answer that tells it
+  pub to_path_told : {x : ℕ} {r : PathWritten} → x ≡ code_refusal code → x ≢ done → (r.refusal ≡ x) × (r.axes ≡ 0) × (r.depth ≡ 0)
+      → CodeToPath code roots paths r roots paths
   unfolding to_path_refusal
+  to_path_told e n f = number_refused (first_is (stops (sym e) n)) n f
+
+  -- a refusal that is the code's own
+  pub to_path_own : (r : Result Lengths Refusal) (x : Refusal) → IsErrAnd r (λ y. y ≡ x) → number_of x ≡ code_refusal code → CodeToPath code roots paths (path_written r) roots paths
   to_path_own (Ok n) x is e = elim is [ ]
-  to_path_own (Err y) x is e = refused y (first_is (stops (sym e ∙ ap number_of (sym is)) (refuses y)))
+  to_path_own (Err y) x is e = to_path_told (ap number_of is ∙ e) (refuses y) (refl, refl, refl)
 
   -- as the code has the code's refusal, its dimension and its depth
   module _ {d D : ℕ} (e : done ≡ code_refusal code) (ax : d ≡ dimension_of code) (dp : D ≡ depth_of code) where

@@ -31,6 +31,19 @@ spread_of o = in_word (λ a. cond (high o a) 1 0)
 unfoldable pub four_more : ℕ → ℕ → ℕ
 four_more p w = 2 * (2 * (2 * (2 * p + spread_of (w % 16)) + spread_of (w / 2 ^ 8 % 16)) + spread_of (w / 2 ^ 16 % 16)) + spread_of (w / 2 ^ 24 % 16)
 
+-- an orthant of four bits that is none of the others is high on every axis
+abbrev NoneOf : ℕ → ℕ → Type 0
+NoneOf zero o = Unit
+NoneOf (suc n) o = NoneOf n o × (o ≡ n → ⊥)
+
+at_last : (n o : ℕ) → NoneOf n o → n ≤ o
+at_last zero o f = omega arith
+at_last (suc n) o f = omega (arith, at_last n o f.0, f.1)
+
+pub spread_last : {o : ℕ} → o < 16 → NoneOf 15 o → ones ≡ spread_of o
+unfolding spread_of in_word high
+spread_last {o} h f = let e : o ≡ 15 = omega (arith, at_last 15 o f) in rw e refl
+
 -- the box lies in the cube
 pub low_inside : (a M : ℕ) (os : List ℕ) → box_low a M os + side_after (M + length os) ≤ side_after M
 unfolding box_low

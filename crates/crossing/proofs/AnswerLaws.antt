@@ -1,5 +1,5 @@
 -- The ways out of a crossing, each with what is known there; and a change of a name's entries where more bytes follow them.
-use Rattle.std.specs.Prelude.{◌≡◌, refl, true, false, ℕ, Ok, Err, suc, ◌+◌, ◌-◌, ◌≤◌, ◌<◌, T, length, get_or, take, drop, set}
+use Rattle.std.specs.Prelude.{◌≡◌, refl, true, false, ◌≢◌, ℕ, Ok, Err, suc, ◌+◌, ◌-◌, ◌≤◌, ◌<◌, T, length, get_or, take, drop, set}
 use Rattle.std.proofs.Math.Path.{sym}
 use Rattle.std.proofs.Common.{ap, ◌∙◌, subst, arith, length-set, take_at, drop_at}
 use mathlib.Core.List.{List, ◌∷◌, ◌++◌, append_assoc}
@@ -73,12 +73,13 @@ module _ (code : List ℕ) (p : code_refusal code ≡ done) (i : ℕ) (il : i �
 
 -- the ways out, in document 01's order
 module _ (code before : List ℕ) (i : ℕ) where
+  -- the code's own number, and any answer that tells it
+  pub cross_told : {x : ℕ} {r : Crossed} → x ≡ code_refusal code → x ≢ done → Refuses x before r before → Crosses code i before r before
+  cross_told {x} {r} e n f = record { own = λ q. subst (λ (m : ℕ). Refuses m before r before) e f; above = λ p l. absurd (n (e ∙ p)); meets = λ p l. absurd (n (e ∙ p)) }
+
+  -- a refusal that is the code's own
   pub cross_own : (x : Refusal) → number_of x ≡ code_refusal code → Crosses code i before (crossed (Err x)) before
-  cross_own x e = record {
-    own = λ q. subst (λ (n : ℕ). Refuses n before (crossed (Err x)) before) e (refused x before);
-    above = λ p l. absurd (refuses x (e ∙ p));
-    meets = λ p l. absurd (refuses x (e ∙ p));
-  }
+  cross_own x e = cross_told e (refuses x) (refused x before)
 
   -- as the code has its dimension and the facet
   pub cross_step : code_refusal code ≡ done → {d j : ℕ} → d ≡ dimension_of code → j ≡ i → d < j → Crosses code i before (crossed (Err Step)) before

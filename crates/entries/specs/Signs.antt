@@ -6,10 +6,10 @@ use Rattle.std.proofs.Math.Bool.{true, false}
 use native.Mathlib.Omega.{arith}
 use Rattle.std.proofs.Math.Decide.{dec_le}
 use Rattle.std.proofs.Math.IntN.{nat_abs, +ℤ_idl, neg_ℤ-neg_ℤ}
-use Rattle.std.specs.Int.Signed.{lt_z}
+use Rattle.std.specs.Int.Signed.{lt_z, non_neg}
 use Rattle.std.proofs.Math.Dec.{T}
 use mir.Syntax.{w8}
-use mir.Val.{SFits, to_z, of_z}
+use mir.Val.{SFits, Fits, to_z, of_z}
 use Rattle.std.proofs.lemmas.Int.{to_z-of_z, to_z_pos}
 use borrow.Author.Tests.{le-leb, lt-leb, ltb-true, ltb-false}
 use Rattle.bisection.specs.Codes.{axis, minus, negated}
@@ -53,36 +53,44 @@ signed_fits e h = go (dec_le 128 e)
 
 -- what the i8 arithmetic of the code computes
 module _ (x : ℤ) (f : SFits w8 x) where
-  held : to_z w8 (of_z w8 x) ≡ x
+  pub held : to_z w8 (of_z w8 x) ≡ x
   held = to_z-of_z w8 x f
 
-  negative : pos 0 -ℤ to_z w8 (of_z w8 x) ≡ neg_ℤ x
+  pub negative : pos 0 -ℤ to_z w8 (of_z w8 x) ≡ neg_ℤ x
   negative = rw held (+ℤ_idl (neg_ℤ x))
 
 -- a positive number's entry
 module _ (x : ℤ) (f : SFits w8 x) (l : lt_z (pos 0) (to_z w8 (of_z w8 x)) ≡ true) where
-  pub plus_byte : nat_abs (to_z w8 (of_z w8 x)) ≡ byte_of x
+  pub plus_byte : (T (non_neg (to_z w8 (of_z w8 x))) × Fits w8 (nat_abs (to_z w8 (of_z w8 x)))) × (nat_abs (to_z w8 (of_z w8 x)) ≡ byte_of x)
   unfolding byte_of
-  plus_byte = rw (held x f) (go x (rw (held x f) at l))
+  plus_byte = rw (held x f) (go x f (rw (held x f) at l))
     where
-      go : (x : ℤ) → lt_z (pos 0) x ≡ true → nat_abs x ≡ byte_of x
-      go (pos zero) l = absurd (omega (arith, ltb-true 0 0 l))
-      go (pos (suc n)) l = refl
-      go (negsuc n) l = absurd (subst T (sym l) tt)
+      go : (x : ℤ) → SFits w8 x → lt_z (pos 0) x ≡ true → (T (non_neg x) × Fits w8 (nat_abs x)) × (nat_abs x ≡ byte_of x)
+      go (pos zero) f l = absurd (omega (arith, ltb-true 0 0 l))
+      go (pos (suc n)) f l = ((tt, record { fits = omega (arith, f.sfits) }), refl)
+      go (negsuc n) f l = absurd (subst T (sym l) tt)
 
 -- another's
 module _ (x : ℤ) (f : SFits w8 x) (g : SFits w8 (neg_ℤ x)) (l : lt_z (pos 0) (to_z w8 (of_z w8 x)) ≡ false) where
   opposite : to_z w8 (of_z w8 (pos 0 -ℤ to_z w8 (of_z w8 x))) ≡ neg_ℤ x
   opposite = rw (negative x f) (held (neg_ℤ x) g)
 
-  pub minus_byte : 128 + nat_abs (to_z w8 (of_z w8 (pos 0 -ℤ to_z w8 (of_z w8 x)))) ≡ byte_of x
-  unfolding byte_of
-  minus_byte = rw opposite (go x (rw (held x f) at l))
+  pub minus_size : T (non_neg (to_z w8 (of_z w8 (pos 0 -ℤ to_z w8 (of_z w8 x))))) × Fits w8 (nat_abs (to_z w8 (of_z w8 (pos 0 -ℤ to_z w8 (of_z w8 x)))))
+  minus_size = rw opposite (go x g (rw (held x f) at l))
     where
-      go : (x : ℤ) → lt_z (pos 0) x ≡ false → 128 + nat_abs (neg_ℤ x) ≡ byte_of x
-      go (pos zero) l = refl
-      go (pos (suc n)) l = absurd (omega (arith, ltb-false 0 (suc n) l))
-      go (negsuc n) l = refl
+      go : (x : ℤ) → SFits w8 (neg_ℤ x) → lt_z (pos 0) x ≡ false → T (non_neg (neg_ℤ x)) × Fits w8 (nat_abs (neg_ℤ x))
+      go (pos zero) g l = (tt, record { fits = omega arith })
+      go (pos (suc n)) g l = absurd (omega (arith, ltb-false 0 (suc n) l))
+      go (negsuc n) g l = (tt, record { fits = omega (arith, g.sfits) })
+
+  pub minus_byte : Fits w8 (128 + nat_abs (to_z w8 (of_z w8 (pos 0 -ℤ to_z w8 (of_z w8 x))))) × (128 + nat_abs (to_z w8 (of_z w8 (pos 0 -ℤ to_z w8 (of_z w8 x)))) ≡ byte_of x)
+  unfolding byte_of
+  minus_byte = rw opposite (go x g (rw (held x f) at l))
+    where
+      go : (x : ℤ) → SFits w8 (neg_ℤ x) → lt_z (pos 0) x ≡ false → Fits w8 (128 + nat_abs (neg_ℤ x)) × (128 + nat_abs (neg_ℤ x) ≡ byte_of x)
+      go (pos zero) g l = (record { fits = omega arith }, refl)
+      go (pos (suc n)) g l = absurd (omega (arith, ltb-false 0 (suc n) l))
+      go (negsuc n) g l = (record { fits = omega (arith, g.sfits) }, refl)
 
 pub plus_value : (e : ℕ) → e < 128 → to_z w8 e ≡ signed_of e
 plus_value e h = to_z_pos w8 e (omega arith) ∙ sym (signed_plus e h)
@@ -93,6 +101,9 @@ module _ (e : ℕ) (h : 128 ≤ e) (l : e < 256) where
 
   is_signed : pos 0 -ℤ to_z w8 (e - 128) ≡ signed_of e
   is_signed = rw less (+ℤ_idl (neg_ℤ (pos (e - 128))) ∙ sym (signed_minus e h))
+
+  pub minus_fits : SFits w8 (pos 0 -ℤ to_z w8 (e - 128))
+  minus_fits = rw is_signed (signed_fits e l)
 
   pub minus_value : to_z w8 (of_z w8 (pos 0 -ℤ to_z w8 (e - 128))) ≡ signed_of e
   minus_value = rw is_signed (held (signed_of e) (signed_fits e l))

@@ -16,6 +16,7 @@ use Rattle.finding.specs.declared.Entry.{Entry}
 use Rattle.finding.specs.declared.Run.{Run}
 use Rattle.finding.specs.declared.Spread.{Spread}
 use Rattle.finding.specs.declared.Sought.{Sought}
+use Rattle.finding.specs.declared.Found.{Found}
 use Rattle.finding.specs.declared.Kind.{Kind}
 use Rattle.finding.specs.Finding.{distance, entry_in, EntryIs, RunIs, Indexed, Among, StandsAt, FindReady, FoundIs}
 use Rattle.finding.specs.Theorems.OneOfThree.{CellOf, starts, start_under, KindIs, among_by}
@@ -172,3 +173,7 @@ code_stands w = record { root_small = w.number; root_is = w.root_is; start_is = 
 pub stands_ready : {mark : List ℕ} {width : ℕ} {sheet : List ℕ} {d : ℕ} {index : List Entry} {spread : Spread} {p : Position} {c : TreeCell} → Indexed mark width sheet d index spread → GoodCell c → StandsAt d c p
     → FindReady mark width sheet d index spread p
 stands_ready {d = d} {p = p} {c = c} i g t = record { indexed = i; root_small = t.root_small; start_small = rw t.start_is (start_under (cell_stands g t)) }
+
+pub found_in : {mark : List ℕ} {width : ℕ} {sheet : List ℕ} {n d : ℕ} {p : Position} {r : Found} (g : GoodSheet mark width sheet n) → FoundIs mark width sheet d p r → {c : TreeCell} → GoodCell c → StandsAt d c p
+    → Among g.cells c r.sought.number r.kind
+found_in {r = r} g f {c} h t = subst (λ (cs : List TreeCell). Among cs c r.sought.number r.kind) (same_cells f.good g) (f.among c h t)

@@ -317,3 +317,15 @@ pub record AboutReady (mark : List ℕ) (width : ℕ) (sheet : List ℕ) (d reco
   pub indexed : Indexed mark width sheet d index spread
   pub good : GoodSheet mark width sheet records
   pub small : number < records
+
+module _ {mark : List ℕ} {width : ℕ} {sheet : List ℕ} {d records : ℕ} {index : List Entry} {spread : Spread} {number : ℕ} (r : AboutReady mark width sheet d records index spread number) where
+  pub about_draw : DrawReady mark width sheet d records index spread.coarse spread.fine.at number
+  about_draw = record {
+    good = r.good;
+    run = r.indexed.coarse;
+    front = r.indexed.front;
+    all = r.indexed.all;
+    apart = r.indexed.apart;
+    room = omega (arith, r.indexed.fine.room, r.indexed.fine.some);
+    small = r.small;
+  }

@@ -23,6 +23,10 @@ pub grey_ratio : {a b : ℕ} {ws us : List ℕ} (width : ℕ) (samples : List �
 unfolding grey_sum
 grey_ratio {a} {b} {ws} {us} width samples r = sums_ratio a b (length ws) (λ j. get_or ws j 0) (λ j. get_or us j 0) (sample_at width samples) r.each ∙ rw r.count refl
 
+-- weights multiplied by c
+pub grey_scaled : {c : ℕ} {ws us : List ℕ} (width : ℕ) (samples : List ℕ) → InRatio 1 c ws us → grey_sum width ws samples ≡ c * grey_sum width us samples
+grey_scaled width samples r = omega (arith, grey_ratio width samples r)
+
 -- the value by weights of sum W is the value by weights of sum U
 pub grey_same : {x : Float} {W U : ℕ} {ws us : List ℕ} (width : ℕ) (samples : List ℕ) → 0 < W → InRatio U W ws us → Fraction x (grey_sum width ws samples) W → Fraction x (grey_sum width us samples) U
 grey_same width samples p r f = fraction_same p (omega (arith, grey_ratio width samples r)) f

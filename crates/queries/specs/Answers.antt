@@ -13,6 +13,7 @@ use Rattle.bisection.specs.Cells.{Point, point_bytes}
 use Rattle.bisection.specs.declared.Refusal.TheVariants.{Short, Point as OutOfCube}
 use Rattle.bisection.specs.declared.Refused.{Refused}
 use Rattle.bisection.specs.NumberLaws.{refuses}
+use Rattle.bisection.specs.Numbers.{number_of}
 use Rattle.bisection.specs.Refusals.{done, refused_short, refused_point}
 use Rattle.bisection.specs.Weights.{Weighs}
 use Rattle.bisection.proofs.Theorems.CodePaths.{some_axes}
@@ -162,8 +163,12 @@ pub err_is : {A : Type 0} (v : Result A Refused) {r : Refused} → IsErrAnd v (�
 err_is (Ok x) is = absurd is
 err_is (Err y) is = ap Err is
 
+-- a query of a sheet that is not good
+pub query_shut : {sheet : List ℕ} {r : Refused} → OpenedIs sheet (Err r) → (refused : ℕ → ℕ → Type 0) {answered : (n : ℕ) → Good sheet n → Type 0} → refused (number_of r.refusal) r.offset → Query sheet refused answered
+query_shut {r = r} (shut o) refused q = sheet_refused o (refuses r.refusal) q
+
 pub asked_shut : {sheet : List ℕ} (point : List ℕ) (r : Refused) → OpenedIs sheet (Err r) → NotAsked sheet point r
-asked_shut point r (shut o) = sheet_refused o (refuses r.refusal) (refl, refl)
+asked_shut point r s = query_shut s (Tells r) (refl, refl)
 
 module _ {sheet : List ℕ} {o : Opened} (is : OpenedIs sheet (Ok o)) (point : List ℕ) where
   abbrev d : ℕ
