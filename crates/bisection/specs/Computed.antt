@@ -29,7 +29,8 @@ unfoldable pub passed : ℕ → ℕ → ℕ
 passed d D = passing d D (candidates d (box_depth d D))
 
 pub counts : (passed 2 0 ≡ 2) × (passed 2 1 ≡ 2 * 2) × (passed 2 2 ≡ 2 * 4) × (passed 2 3 ≡ 2 * 8) × (passed 3 1 ≡ 6 * 2) × (passed 3 2 ≡ 6 * 4)
-unfolding passed candidates passing words joined axes_from code_refusal head_refusal length_of body_refusal first_refusal each fresh permutes orthants_fit own_minus signs_own is_dimension halvings greatest_depth level split_place box_depth code_length minus axis high dimension_of depth_of entries_of orthants_of
+unfolding passed candidates passing words joined axes_from code_refusal head_refusal length_of body_refusal first_refusal each fresh permutes orthants_fit
+    own_minus signs_own is_dimension halvings greatest_depth level split_place box_depth code_length minus axis high dimension_of depth_of entries_of orthants_of
 counts = (refl, refl, refl, refl, refl, refl)
 
 -- the roots in dictionary order

@@ -137,10 +137,13 @@ module _ {mark : List ℕ} {width : ℕ} {sheet : List ℕ} {n : ℕ} (g : GoodS
 
     -- at the front of the next one
     turned : 2 ^ M ≤ start_at i + part_at i → start_at (suc i) ≡ 0
-    turned h = omega (arith, next, part_ends i from, suc-mul (root_number i) (2 ^ M), ap (λ (r : ℕ). r * 2 ^ M) one)
+    turned h = omega (arith, front, ap (λ (r : ℕ). r * 2 ^ M) one)
       where
+        front : root_number (suc i) * 2 ^ M + start_at (suc i) ≡ suc (root_number i) * 2 ^ M
+        front = omega (arith, next, part_ends i from, suc-mul (root_number i) (2 ^ M))
+
         one : suc (root_number i) ≡ root_number (suc i)
-        one = same_stretch (2 ^ M) (suc (root_number i)) (root_number (suc i)) 0 (start_at (suc i)) (2 ^ M) (omega (arith, next, part_ends i from, suc-mul (root_number i) (2 ^ M))) (omega (arith, next, part_ends i from, suc-mul (root_number i) (2 ^ M), pow_pos M)) (omega arith) (start_under (leaf_cell g (suc i) l))
+        one = same_stretch (2 ^ M) (suc (root_number i)) (root_number (suc i)) 0 (start_at (suc i)) (2 ^ M) (omega (arith, front)) (omega (arith, front, pow_pos M)) (omega arith) (start_under (leaf_cell g (suc i) l))
 
     pub start_next : {start size r : ℕ} → start ≡ start_at i → size ≡ part_at i → NextStart start size (2 ^ M) r → r ≡ start_at (suc i)
     start_next {start} {size} {r} s_is z_is h = go (dec_lt (start + size) (2 ^ M))

@@ -1,15 +1,15 @@
 -- The whole check of a sheet, as those who go on with the sheet ask for it: its first record names the dimension.
 use Rattle.std.specs.Prelude.{◌≡◌, refl, List, ℕ, Result, Ok, Err}
-use Rattle.std.proofs.Common.{sym, ap, ◌∙◌, subst₂, arith}
+use Rattle.std.proofs.Common.{sym, subst₂}
 use Rattle.dimension.specs.Sizes.{axes_of}
 use Rattle.bisection.specs.declared.Refused.{Refused}
 use Rattle.bisection.specs.Refusals.{done}
-use Rattle.sheets.specs.declared.SheetAnswer.{SheetAnswer}
 use Rattle.sheets.specs.declared.Edition.{Edition}
 use Rattle.sheets.specs.declared.RecordParts.{RecordParts}
 use Rattle.sheets.specs.Forms.{sheet_answer}
-use Rattle.sheets.specs.Sheets.{SheetIs, good, record_refused, not_next, ended_early, record_refusal, GoodSheet, sheet_mark, sample_width, Good}
+use Rattle.sheets.specs.Sheets.{SheetIs, record_refusal, GoodSheet, sheet_mark, sample_width, Good}
 use Rattle.sheets.specs.Steps.{mark_of, IsFirst, PartsAre}
+use Rattle.sheets.specs.Theorems.Determined.{good_of}
 use Rattle.sheets.specs.Theorems.FirstRecord.{first_record}
 use Rattle.finding.specs.declared.opened.Opened.{Opened}
 
@@ -28,29 +28,18 @@ pub data OpenedIs (sheet : List ℕ) : Result Opened Refused → Type 0 where
 pub opened_checked : {sheet : List ℕ} {o : Opened} → OpenedIs sheet (Ok o) → Checked sheet (axes_of o.dim) o.records
 opened_checked (checked c) = c
 
-record Known (sheet : List ℕ) (records : ℕ) : Type 0 where
-  count : ℕ
-  good_sheet : Good sheet count
-  records_are : records ≡ count
-
-known : {sheet : List ℕ} {a : SheetAnswer} → SheetIs sheet a → a.refusal ≡ done → Known sheet a.records
-known (good {n = n} g e) h = record { count = n; good_sheet = g; records_are = ap (λ (a : SheetAnswer). a.records) e }
-known (record_refused r l k e) h = absurd (k (sym (ap (λ (a : SheetAnswer). a.refusal) e) ∙ h))
-known (not_next r l k b e) h = absurd (omega (arith, ap (λ (a : SheetAnswer). a.refusal) e))
-known (ended_early r l k e) h = absurd (omega (arith, ap (λ (a : SheetAnswer). a.refusal) e))
-
 module _ {sheet : List ℕ} {n : ℕ} (s : SheetIs sheet (sheet_answer (Ok n))) {e : Edition} (f : IsFirst e) where
-  k : Known sheet n
-  k = known s refl
+  g : Good sheet n
+  g = good_of s refl
 
-  of_edition : GoodSheet (mark_of e) e.width sheet k.count
-  of_edition = subst₂ (λ (m : List ℕ) (w : ℕ). GoodSheet m w sheet k.count) (sym f.mark_is) (sym f.width_is) k.good_sheet
+  of_edition : GoodSheet (mark_of e) e.width sheet n
+  of_edition = subst₂ (λ (m : List ℕ) (w : ℕ). GoodSheet m w sheet n) (sym f.mark_is) (sym f.width_is) g
 
   pub opened_first : record_refusal (mark_of e) e.width sheet ≡ done
   opened_first = (first_record of_edition).passes
 
   pub opened_good : {p : RecordParts} → PartsAre (mark_of e) e.width sheet p → Checked sheet (axes_of p.dim) n
-  opened_good {p} are = record { count = k.count; good_sheet = k.good_sheet; axes = sym ((first_record k.good_sheet).dimension_is p parts); count_is = sym k.records_are }
+  opened_good {p} are = record { count = n; good_sheet = g; axes = sym ((first_record g).dimension_is p parts); count_is = refl }
     where
       parts : PartsAre sheet_mark sample_width sheet p
       parts = subst₂ (λ (m : List ℕ) (w : ℕ). PartsAre m w sheet p) f.mark_is f.width_is are

@@ -1,17 +1,10 @@
 -- The listing's contract determines the output, its length and every cell of the buffer.
-use Rattle.std.specs.Prelude.{◌≡◌, refl, List, ◌++◌, ◌≢◌, ℕ, length, drop}
+use Rattle.std.specs.Prelude.{◌≡◌, refl, List, ◌++◌, ℕ, length, drop}
 use Rattle.std.proofs.Common.{sym, ap, ◌∙◌, arith}
-use Rattle.bisection.specs.Refusals.{done}
 use Rattle.sheets.specs.declared.SheetAnswer.{SheetAnswer}
-use Rattle.sheets.specs.Sheets.{sheet_mark, sample_width, GoodSheet, SheetIs, told}
-use Rattle.sheets.specs.Sheets.{good as good_sheet}
-use Rattle.sheets.specs.Theorems.Determined.{sheet_determined}
+use Rattle.sheets.specs.Theorems.Determined.{sheet_determined, not_both}
 use Rattle.sheets.specs.Theorems.Good.{same_cells, same_axes}
 use Rattle.listing.specs.Texts.{good_text, refused_text, Listing, large, refused, good, Lists}
-
--- a sheet is not both refused and good
-not_both : {sheet : List ℕ} {n : ℕ} (r : SheetAnswer) → SheetIs sheet r → r.refusal ≢ done → GoodSheet sheet_mark sample_width sheet n → ⊥
-not_both {sheet} {n} r is x g = x (ap (λ (a : SheetAnswer). a.refusal) (sheet_determined sheet r (told done 0 n) is (good_sheet g refl)))
 
 pub one_listing : {sheet text text' : List ℕ} → Listing sheet text → Listing sheet text' → text ≡ text'
 one_listing (large h) (large h') = refl
@@ -19,9 +12,9 @@ one_listing (large h) (refused l r is x) = absurd (omega arith)
 one_listing (large h) (good l g) = absurd (omega arith)
 one_listing (refused l r is x) (large h) = absurd (omega arith)
 one_listing {sheet} (refused l r is x) (refused l' r' is' x') = ap (λ (a : SheetAnswer). refused_text a.refusal a.offset) (sheet_determined sheet r r' is is')
-one_listing (refused l r is x) (good l' g) = absurd (not_both r is x g)
+one_listing (refused l r is x) (good l' g) = absurd (not_both is x g)
 one_listing (good l g) (large h) = absurd (omega arith)
-one_listing (good l g) (refused l' r is x) = absurd (not_both r is x g)
+one_listing (good l g) (refused l' r is x) = absurd (not_both is x g)
 one_listing (good l g) (good l' g') = ap (λ (d : ℕ). good_text d g.cells) (same_axes g g') ∙ ap (good_text g'.dimension) (same_cells g g')
 
 pub listing_determined : (sheet out : List ℕ) (r s : ℕ) (out' out'' : List ℕ) → Lists sheet out r out' → Lists sheet out s out'' → (r ≡ s) × (out' ≡ out'')

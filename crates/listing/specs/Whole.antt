@@ -7,9 +7,7 @@ use native.Mathlib.Omega.{arith}
 use Rattle.std.proofs.Math.ListN.{length, drop}
 use Rattle.dimension.specs.Sizes.{axes_of}
 use Rattle.dimension.specs.Laws.{dimension}
-use Rattle.bisection.specs.Refusals.{done}
-use Rattle.sheets.specs.declared.SheetAnswer.{SheetAnswer}
-use Rattle.sheets.specs.Sheets.{sheet_mark, sample_width, GoodSheet, SheetIs, good, record_refused, not_next, ended_early}
+use Rattle.sheets.specs.Sheets.{sheet_mark, sample_width, GoodSheet}
 use Rattle.sheets.specs.declared.Edition.{Edition}
 use Rattle.sheets.specs.declared.RecordParts.{RecordParts}
 use Rattle.sheets.specs.Steps.{mark_of, IsFirst, PartsAre}
@@ -63,19 +61,6 @@ module _ {mark : List ℕ} {width : ℕ} (two : length mark ≡ 2) {sheet : List
 
           both_fit : 0 + length (number_line dim_word d ++ leaf_lines 0 q.sheet_is.cells) ≤ length out
           both_fit = omega (arith, both_length, first_length, q.short, room.room)
-
--- the answer of the sheet check: a refusal's offset is inside the sheet, and no refusal means a good sheet
-pub offset_inside : {sheet : List ℕ} {r : SheetAnswer} → SheetIs sheet r → r.offset ≤ length sheet
-offset_inside (good g e) = omega (arith, ap (λ (a : SheetAnswer). a.offset) e)
-offset_inside (record_refused x h n e) = omega (arith, ap (λ (a : SheetAnswer). a.offset) e)
-offset_inside (not_next x h n b e) = omega (arith, ap (λ (a : SheetAnswer). a.offset) e)
-offset_inside (ended_early x h n e) = omega (arith, ap (λ (a : SheetAnswer). a.offset) e)
-
-pub good_of : {sheet : List ℕ} {r : SheetAnswer} → SheetIs sheet r → r.refusal ≡ done → GoodSheet sheet_mark sample_width sheet r.records
-good_of {sheet} (good g e) z = subst (GoodSheet sheet_mark sample_width sheet) (sym (ap (λ (a : SheetAnswer). a.records) e)) g
-good_of (record_refused x h n e) z = absurd (n (sym (ap (λ (a : SheetAnswer). a.refusal) e) ∙ z))
-good_of (not_next x h n b e) z = absurd (omega (arith, ap (λ (a : SheetAnswer). a.refusal) e))
-good_of (ended_early x h n e) z = absurd (omega (arith, ap (λ (a : SheetAnswer). a.refusal) e))
 
 -- the edition of document 01
 pub first_puts : {e : Edition} {sheet : List ℕ} {records : ℕ} {out out' : List ℕ} {r : ℕ} → IsFirst e → PutsGood (mark_of e) e.width sheet records out r out' → PutsGood sheet_mark sample_width sheet records out r out'

@@ -1,4 +1,5 @@
-// What the program writes that is neither text nor a number, and the ends of lines that it often writes.
+// Where the program writes; what it writes that is neither text nor a number, and the ends of lines that it often writes.
+ghost use Rattle.std.specs.Prelude.{IsOk};
 ghost use Rattle.worked.specs.Slopes.{NoNan};
 
 use bisection::{Refusal, Refused};
@@ -18,7 +19,10 @@ impl Out {
 }
 
 impl fmt::Write for Out {
-    fn write_str(&mut self, s: &str) -> fmt::Result {
+    // It never fails, so that no `?` behind a `write!` ends a line.
+    fn write_str(&mut self, s: &str) -> fmt::Result
+        ensures { IsOk result }
+    {
         self.put(s.as_bytes());
         Ok(())
     }

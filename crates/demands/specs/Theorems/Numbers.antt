@@ -64,9 +64,13 @@ pub leaf_in_is : (d : ℕ) (point : List ℕ) (room : ℕ) → leaf_refusal d po
 unfolding leaf_refusal Numbered
 leaf_in_is d point room = numbered _ (omega arith, (omega arith, tt))
 
+unmarked_in : (width : ℕ) (bs : List ℕ) → unmarked_refusal width bs ≤ 15
+unfolding unmarked_refusal Numbered
+unmarked_in width bs = numbered _ (omega (arith, head_in bs, front_refusal_is bs), (omega arith, (omega (arith, body_in (front_code bs), inner_refusal_is (front_code bs)), (omega arith, tt))))
+
 record_in : (mark : List ℕ) (width : ℕ) (bs : List ℕ) → record_refusal mark width bs ≤ 15
-unfolding record_refusal unmarked_refusal Numbered
-record_in mark width bs = numbered _ (omega arith, (numbered _ (omega (arith, head_in (behind_mark mark bs), front_refusal_is (behind_mark mark bs)), (omega arith, (omega (arith, body_in (front_code (behind_mark mark bs)), inner_refusal_is (front_code (behind_mark mark bs))), (omega arith, tt)))), tt))
+unfolding record_refusal Numbered
+record_in mark width bs = numbered _ (omega arith, (unmarked_in width (behind_mark mark bs), tt))
 
 pub sheet_in : {sheet : List ℕ} {a : SheetAnswer} → SheetIs sheet a → a.refusal ≤ 15
 sheet_in (good g e) = omega (arith, ap (λ (a : SheetAnswer). a.refusal) e)

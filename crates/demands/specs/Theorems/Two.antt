@@ -22,7 +22,7 @@ use Rattle.codes.specs.PathAnswers.{good_root}
 use Rattle.codes.specs.Bisects.{child_bisects, parent_bisects}
 use Rattle.sheets.specs.declared.SheetAnswer.{SheetAnswer}
 use Rattle.sheets.specs.Sheets.{SheetIs, good, record_refused, not_next, ended_early, Good, told, leaf_in, sample_width, samples_of, sheet_refused, sheet_good}
-use Rattle.sheets.specs.Theorems.Determined.{sheet_determined}
+use Rattle.sheets.specs.Theorems.Determined.{sheet_determined, good_of}
 use Rattle.sheets.specs.Theorems.Good.{same_cells}
 use Rattle.sheets.specs.Theorems.Listing.{GoodCell}
 use Rattle.queries.specs.declared.LeafAnswer.{LeafAnswer}
@@ -93,10 +93,7 @@ whole code before r after a e vs ws v w =
     (p.last, rw (front a.writes e) o)
 
 yes_good : (sheet : List ℕ) (r : SheetAnswer) → SheetIs sheet r → r.refusal ≡ done → Good sheet r.records
-yes_good sheet r (good g q) e = rw q g
-yes_good sheet r (record_refused d l k q) e = absurd (k (sym (ap (λ (a : SheetAnswer). a.refusal) q) ∙ e))
-yes_good sheet r (not_next d l k b q) e = absurd (omega (arith, e, ap (λ (a : SheetAnswer). a.refusal) q))
-yes_good sheet r (ended_early d l k q) e = absurd (omega (arith, e, ap (λ (a : SheetAnswer). a.refusal) q))
+yes_good sheet r s e = good_of s e
 
 good_yes : (sheet : List ℕ) (r : SheetAnswer) → SheetIs sheet r → (n : ℕ) → Good sheet n → (r.refusal ≡ done) × (r.records ≡ n)
 good_yes sheet r s n g = let q = sheet_determined sheet r (told done 0 n) s (good g refl) in (ap (λ (a : SheetAnswer). a.refusal) q, ap (λ (a : SheetAnswer). a.records) q)

@@ -135,8 +135,21 @@ module _ (mark : List ℕ) (width : ℕ) where
 pub sheet_determined : (sheet : List ℕ) (r r' : SheetAnswer) → SheetIs sheet r → SheetIs sheet r' → r ≡ r'
 sheet_determined sheet r r' a b = checks_same sheet_mark sample_width sheet a b
 
+-- what is answered: a refusal begins inside the sheet or at its end, and no refusal means a good sheet
+pub offset_inside : {sheet : List ℕ} {r : SheetAnswer} → SheetIs sheet r → r.offset ≤ length sheet
+offset_inside (good g e) = omega (arith, ap (λ (a : SheetAnswer). a.offset) e)
+offset_inside (record_refused x h n e) = omega (arith, ap (λ (a : SheetAnswer). a.offset) e)
+offset_inside (not_next x h n b e) = omega (arith, ap (λ (a : SheetAnswer). a.offset) e)
+offset_inside (ended_early x h n e) = omega (arith, ap (λ (a : SheetAnswer). a.offset) e)
+
+pub good_of : {sheet : List ℕ} {r : SheetAnswer} → SheetIs sheet r → r.refusal ≡ done → Good sheet r.records
+good_of {sheet} (good g e) z = subst (Good sheet) (sym (ap (λ (a : SheetAnswer). a.records) e)) g
+good_of (record_refused x h n e) z = absurd (n (sym (ap (λ (a : SheetAnswer). a.refusal) e) ∙ z))
+good_of (not_next x h n b e) z = absurd (omega (arith, ap (λ (a : SheetAnswer). a.refusal) e))
+good_of (ended_early x h n e) z = absurd (omega (arith, ap (λ (a : SheetAnswer). a.refusal) e))
+
 -- a sheet is refused, or good in one way
-not_both : {sheet : List ℕ} {a : SheetAnswer} {n : ℕ} → SheetIs sheet a → a.refusal ≢ done → Good sheet n → ⊥
+pub not_both : {sheet : List ℕ} {a : SheetAnswer} {n : ℕ} → SheetIs sheet a → a.refusal ≢ done → Good sheet n → ⊥
 not_both {sheet} {a} {n} s k g = k (ap (λ (a : SheetAnswer). a.refusal) (sheet_determined sheet a (told done 0 n) s (good g refl)))
 
 pub query_one : {sheet : List ℕ} {refused refused' : ℕ → ℕ → Type 0} {answered answered' : (n : ℕ) → Good sheet n → Type 0} {Z : Type 0}

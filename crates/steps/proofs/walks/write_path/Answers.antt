@@ -27,4 +27,6 @@ pub loop-t-preserved : goal.loop-t-preserved
 loop-t-preserved c = search (rules, rise_next)
 
 pub returns : goal.returns
-returns c = rw (← c.dim-dim.ensures, ← c.depth-depth.ensures, ← c.bytes-bytes.ensures.is) (path_stands (path_from c.bytes-bytes.ensures.is c.bytes-bytes.ensures.passes c.dim-dim.ensures c.depth-depth.ensures c.requires) c.axes-axes.ensures c.word_in-entries.ensures c.loop-t.invariant c.loop-t-test.false c.from.ensures c.write.ensures)
+returns c =
+    let from = path_from c.bytes-bytes.ensures.is c.bytes-bytes.ensures.passes c.dim-dim.ensures c.depth-depth.ensures c.requires in
+    rw (← c.dim-dim.ensures, ← c.depth-depth.ensures, ← c.bytes-bytes.ensures.is) (path_stands from c.axes-axes.ensures c.word_in-entries.ensures c.loop-t.invariant c.loop-t-test.false c.from.ensures c.write.ensures)
